@@ -20,7 +20,7 @@ use Rattle.sd_manager.proofs.DetachedFrom.{under_apart}
 use Rattle.sd_apply.specs.Places.{tree_at, IsThere, IsBelow, HasPlace}
 use Rattle.sd_apply.proofs.Trees.{under_number}
 use Rattle.sd_apply.proofs.Standing.{place_under, stands_here}
-use Rattle.sd_move.specs.declared.sorting.Side.{Side}
+use Rattle.sd_model.specs.declared.trees.Side.{Side}
 use Rattle.sd_move.specs.Sorting.{on, TellsBelow, TellsAllBelow, HasOneBeside}
 
 -- by values

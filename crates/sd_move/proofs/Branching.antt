@@ -49,7 +49,7 @@ use Rattle.sd_move.specs.Branches.{AddsBranches, IsBranch, found, AreBranches, A
 use Rattle.sd_move.specs.Branches.{IsInnerOf, IsRow, IsGroup, IsNextPrime, IsJoined, IsCornerOf}
 use Rattle.sd_move.specs.Rewriting.{AreBelow}
 use Rattle.sd_move.specs.Sorting.{TellsAllBelow}
-use Rattle.sd_move.specs.declared.sorting.Side.TheVariants.{Left}
+use Rattle.sd_model.specs.declared.trees.Side.TheVariants.{Left}
 use Rattle.sd_move.proofs.Below.{at_index, from_index}
 use Rattle.sd_move.proofs.NewList.{or_assoc, or_false, and_false, key_stays, list_stays}
 use Rattle.sd_move.proofs.Spreading.{shown_value, value_on, possible_diagram, before_rest, left_child_under}

@@ -21,8 +21,8 @@ use Rattle.sd_laws.proofs.Placing.{At, at_children, right_upper_to_lower, right_
 use Rattle.sd_laws.proofs.Placing.{depends_left, depends_right, left_upper_to_lower}
 use Rattle.sd_laws.proofs.Placing.{left_upper_kept, right_written, left_written}
 use Rattle.sd_apply.specs.Places.{tree_at, plain, IsThere}
-use Rattle.sd_move.specs.declared.sorting.Side.{Side}
-use Rattle.sd_move.specs.declared.sorting.Side.TheVariants.{Left, Right}
+use Rattle.sd_model.specs.declared.trees.Side.{Side}
+use Rattle.sd_model.specs.declared.trees.Side.TheVariants.{Left, Right}
 use Rattle.sd_move.specs.Steps.{IsChildNode}
 use Rattle.sd_move.specs.Sorting.{on, AreRotatedOn, IsDivided}
 use Rattle.sd_move.proofs.LowerNode.{left_child as left_is_child, right_child as right_is_child}

@@ -15,8 +15,8 @@ use Rattle.sd_manager.specs.Views.{pairs_at}
 use Rattle.sd_manager.proofs.Reading.{pairs_node, detached_key}
 use Rattle.sd_apply.specs.Places.{tree_at, IsThere, IsBelow}
 use Rattle.sd_apply.proofs.Standing.{stands_here}
-use Rattle.sd_move.specs.declared.sorting.Side.{Side}
-use Rattle.sd_move.specs.declared.sorting.Side.TheVariants.{Left, Right}
+use Rattle.sd_model.specs.declared.trees.Side.{Side}
+use Rattle.sd_model.specs.declared.trees.Side.TheVariants.{Left, Right}
 use Rattle.sd_move.specs.Moving.{Progress}
 use Rattle.sd_move.specs.Sorting.{on, HasOneBeside, IsDivided, CanSort}
 use Rattle.sd_move.proofs.Below.{below_by_value, value_of_below}

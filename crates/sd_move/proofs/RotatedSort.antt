@@ -27,8 +27,8 @@ use Rattle.sd_manager.specs.Valid.{IsTable, IsSettled}
 use Rattle.sd_manager.specs.Moving.{with_vtree}
 use Rattle.sd_manager.proofs.Reading.{linked_key}
 use Rattle.sd_manager.proofs.DetachedFrom.{under_apart}
-use Rattle.sd_move.specs.declared.sorting.Side.{Side}
-use Rattle.sd_move.specs.declared.sorting.Side.TheVariants.{Left, Right}
+use Rattle.sd_model.specs.declared.trees.Side.{Side}
+use Rattle.sd_model.specs.declared.trees.Side.TheVariants.{Left, Right}
 use Rattle.sd_move.specs.Moving.{no_progress, HasBegun}
 use Rattle.sd_move.specs.Journal.{Named}
 use Rattle.sd_move.specs.Steps.{HasDetachedBoth, AreLinkedAt, IsReadyToRotate}

@@ -13,7 +13,7 @@ use Rattle.sd_laws.proofs.Evaluated.{value_of}
 use Rattle.sd_manager.specs.Table.{Table, key_at}
 use Rattle.sd_manager.specs.Valid.{IsTable}
 use Rattle.sd_manager.specs.Moving.{next_epoch, IsLater}
-use Rattle.sd_move.specs.declared.sorting.Side.{Side}
+use Rattle.sd_model.specs.declared.trees.Side.{Side}
 use Rattle.sd_move.specs.Journal.{Named}
 use Rattle.sd_move.specs.Moving.{no_progress, HasBegun}
 use Rattle.sd_move.specs.OnTheWay.{IsOnTheWay}

@@ -15,7 +15,7 @@ use Rattle.sd_manager.specs.Table.{Table, key_at}
 use Rattle.sd_manager.specs.Valid.{IsTable}
 use Rattle.sd_manager.specs.Moving.{moving_at}
 use Rattle.sd_manager.proofs.Reading.{linked_key, detached_key}
-use Rattle.sd_move.specs.declared.sorting.Side.{Side}
+use Rattle.sd_model.specs.declared.trees.Side.{Side}
 use Rattle.sd_move.specs.Journal.{Named, journal_entry, without_runs}
 use Rattle.sd_move.specs.Recorded.{IsRecorded, AreRecorded}
 use Rattle.sd_move.specs.Rewriting.{numbers_of}

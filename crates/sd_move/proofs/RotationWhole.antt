@@ -13,8 +13,8 @@ use Rattle.sd_vtree.proofs.Subtrees.{inner_part, once_numbered}
 use Rattle.sd_laws.specs.Turned.{lower_of}
 use Rattle.sd_manager.specs.Table.{Table}
 use Rattle.sd_manager.specs.Valid.{IsTable}
-use Rattle.sd_move.specs.declared.sorting.Side.{Side}
-use Rattle.sd_move.specs.declared.sorting.Side.TheVariants.{Left, Right}
+use Rattle.sd_model.specs.declared.trees.Side.{Side}
+use Rattle.sd_model.specs.declared.trees.Side.TheVariants.{Left, Right}
 use Rattle.sd_move.specs.Moves.{IsMovable}
 use Rattle.sd_move.specs.OnTheWay.{IsLowerFound}
 use Rattle.sd_move.specs.Sorting.{on, rotation_of, CanRotate}

@@ -22,7 +22,7 @@ use Rattle.sd_manager.specs.Table.{Table}
 use Rattle.sd_manager.specs.Valid.{IsTable, IsSettled}
 use Rattle.sd_manager.specs.Moving.{linked_under, FitsNode, IsAscending, IsAbsent}
 use Rattle.sd_manager.proofs.DetachedFrom.{under_apart}
-use Rattle.sd_move.specs.declared.sorting.Side.{Side}
+use Rattle.sd_model.specs.declared.trees.Side.{Side}
 use Rattle.sd_move.specs.declared.sorting.Fit.{Fit}
 use Rattle.sd_move.specs.declared.sorting.Fit.TheVariants.{Upper, Lower, Neither}
 use Rattle.sd_move.specs.Journal.{Named}

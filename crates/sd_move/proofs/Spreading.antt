@@ -19,7 +19,7 @@ use Rattle.sd_manager.specs.Valid.{IsTable}
 use Rattle.sd_manager.specs.Views.{pairs_at}
 use Rattle.sd_apply.specs.Places.{HasChildren, IsBelow, IsNodeUnder}
 use Rattle.sd_apply.proofs.Listed.{node_on}
-use Rattle.sd_move.specs.declared.sorting.Side.TheVariants.{Left, Right}
+use Rattle.sd_model.specs.declared.trees.Side.TheVariants.{Left, Right}
 use Rattle.sd_move.specs.Rewriting.{AreBelow}
 use Rattle.sd_move.specs.Sorting.{on}
 

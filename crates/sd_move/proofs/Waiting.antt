@@ -22,7 +22,7 @@ use Rattle.sd_manager.specs.Table.{Table}
 use Rattle.sd_manager.specs.Valid.{IsTable}
 use Rattle.sd_manager.proofs.Reading.{detached_key}
 use Rattle.sd_apply.specs.Places.{tree_at}
-use Rattle.sd_move.specs.declared.sorting.Side.{Side}
+use Rattle.sd_model.specs.declared.trees.Side.{Side}
 use Rattle.sd_move.specs.Moving.{Progress}
 use Rattle.sd_move.specs.Sorting.{IsTwoSidedAt, CanSortNode, CanSort, AreSorted}
 use Rattle.sd_move.proofs.Divided.{looks_below}

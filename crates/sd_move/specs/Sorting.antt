@@ -15,8 +15,8 @@ use Rattle.sd_manager.specs.Table.{Table}
 use Rattle.sd_manager.specs.Valid.{IsTable}
 use Rattle.sd_manager.specs.Moving.{IsAscending, linked_under, with_vtree}
 use Rattle.sd_apply.specs.Places.{IsBelow}
-use Rattle.sd_move.specs.declared.sorting.Side.{Side}
-use Rattle.sd_move.specs.declared.sorting.Side.TheVariants.{Left, Right}
+use Rattle.sd_model.specs.declared.trees.Side.{Side}
+use Rattle.sd_model.specs.declared.trees.Side.TheVariants.{Left, Right}
 use Rattle.sd_move.specs.declared.sorting.Fit.{Fit}
 use Rattle.sd_move.specs.declared.sorting.Fit.TheVariants.{Upper, Lower, Neither}
 use Rattle.sd_move.specs.Journal.{Named}

@@ -20,9 +20,10 @@ use crate::ending::end_or_go_back;
 use crate::error::MoveError;
 use crate::journal::{Entry, Journal, Moved};
 use crate::rewriting::rewrite_all;
-use crate::sorting::{Side, child_on, rotate_and_sort, rotation_of};
+use crate::sorting::{Rotation, child_on, rotate_and_sort, rotation_of};
 use sd_cache::Cache;
 use sd_manager::Manager;
+use sd_model::Side;
 use sd_runs::TakeError;
 use sd_sweep::sweep;
 use sd_vtree::VNode;
@@ -35,20 +36,20 @@ fn rotate_and_rewrite(
     alloc: Global,
     m: &mut Manager,
     c: &mut Cache,
-    side: Side,
-    upper: VNode,
-    lower: VNode,
+    rotation: Rotation,
     upper_nodes: &[u32],
     lower_nodes: &[u32],
     named: &mut Vec<Entry>,
 ) -> Result<(), TakeError>
     requires may { (old : Table) × (u : Numbered)
-        × CanRotate old m.old side upper lower upper_nodes.now lower_nodes.now u × Serves c.old old }
-    requires entered { named.old.items ≡ map (place_entry lower) lower_nodes.now }
+        × CanRotate old m.old rotation.side rotation.upper rotation.lower upper_nodes.now
+        lower_nodes.now u × Serves c.old old }
+    requires entered { named.old.items ≡ map (place_entry rotation.lower) lower_nodes.now }
     requires table { IsTable m.old }
     ensures way { (old : Table) (u : Numbered)
-        → CanRotate old m.old side upper lower upper_nodes.now lower_nodes.now u
-        → IsOnTheWay old m.new (rotation_of side) upper (Some lower) named.new.items }
+        → CanRotate old m.old rotation.side rotation.upper rotation.lower upper_nodes.now
+        lower_nodes.now u → IsOnTheWay old m.new (rotation_of rotation.side) rotation.upper
+        (Some rotation.lower) named.new.items }
     ensures all { OnOk result (m.new.detached ≡ empty) }
     ensures serves { Serves c.new m.new }
     ensures rule { IfErr result (λ e. KeepsRule m.new e) }
@@ -56,17 +57,9 @@ fn rotate_and_rewrite(
 {
     // That the epoch is a `u64` tells that it is the last one where it no longer rises.
     let _ = m.epoch();
+    let upper = rotation.upper;
     let mut waiting = Vec::new(alloc);
-    match rotate_and_sort(
-        m,
-        side,
-        upper,
-        lower,
-        upper_nodes,
-        lower_nodes,
-        named,
-        &mut waiting,
-    ) {
+    match rotate_and_sort(m, rotation, upper_nodes, lower_nodes, named, &mut waiting) {
         Ok(()) => rewrite_all(alloc, m, c, upper, &waiting, named),
         Err(_) => Err(TakeError::OutOfMemory),
     }
@@ -94,17 +87,17 @@ fn rotate_nodes(
     alloc: Global,
     m: &mut Manager,
     c: &mut Cache,
-    side: Side,
-    upper: VNode,
-    lower: VNode,
+    rotation: Rotation,
 ) -> Result<Journal, MoveError>
     requires swept { AreAllReached m.old }
     requires no_move { m.old.moving ≡ None }
-    requires place { upper < length (numbers m.old.vtree) }
-    requires lower { IsLowerFound m.old (rotation_of side) upper (Some lower) }
+    requires place { rotation.upper < length (numbers m.old.vtree) }
+    requires lower { IsLowerFound m.old (rotation_of rotation.side) rotation.upper
+        (Some rotation.lower) }
     requires serves { Serves c.old m.old }
     requires table { IsTable m.old }
-    ensures moved { IfOk result (λ j. IsMoved m.old m.new (rotation_of side) upper j) }
+    ensures moved { IfOk result (λ j. IsMoved m.old m.new (rotation_of rotation.side)
+        rotation.upper j) }
     ensures back { OnErr result (KeepsReached m.old m.new × (m.new.moving ≡ None)) }
     ensures never_falls { OnErr result (NeverFalls m.old m.new) }
     ensures bound { m.new.bound ≡ m.old.bound }
@@ -115,12 +108,11 @@ fn rotate_nodes(
 {
     // That the epoch is a `u64` tells that it is the last one where it no longer rises.
     let _ = m.epoch();
+    let Rotation { side, upper, lower } = rotation;
     let mut named = Vec::new(alloc);
     match begin_at_both(alloc, m, upper, lower, &mut named) {
         Ok(nodes) => {
-            let done = rotate_and_rewrite(
-                alloc, m, c, side, upper, lower, &nodes.0, &nodes.1, &mut named,
-            );
+            let done = rotate_and_rewrite(alloc, m, c, rotation, &nodes.0, &nodes.1, &mut named);
             end_or_go_back(m, rotation_of(side), upper, Some(lower), named, done)
         }
         Err(_) => Err(MoveError::OutOfMemory),
@@ -157,7 +149,12 @@ fn rotate(
         return Err(MoveError::NotMovable);
     };
     sweep(m);
-    match rotate_nodes(alloc, m, c, side, place, lower) {
+    let rotation = Rotation {
+        side,
+        upper: place,
+        lower,
+    };
+    match rotate_nodes(alloc, m, c, rotation) {
         Ok(journal) => {
             let _ = m.epoch();
             within(m, journal, most)

@@ -18,16 +18,20 @@ ghost use Rattle.sd_move.specs.Sorting.{HasRotated, place_entry};
 use crate::beginning::rotate_detached;
 use crate::journal::Entry;
 use sd_manager::{Manager, NodeId, View};
-use sd_model::Move;
+use sd_model::{Move, Side};
 use sd_vtree::VNode;
 use std::alloc::AllocError;
 
-// The primes of nodes and the left children, or the subs and the right children. A rotation to the right divides the
-// first, one to the left the second.
-#[derive(Clone, Copy)]
-pub(crate) enum Side {
-    Left,
-    Right,
+/// A rotation: to the right, which divides the primes of the upper node's list, on the left side, or to the left,
+/// which divides its subs, on the right side.
+#[derive(Clone, Copy, Drop)]
+pub(crate) struct Rotation {
+    /// The side that it divides.
+    pub(crate) side: Side,
+    /// The vtree node at which it is made.
+    pub(crate) upper: VNode,
+    /// The child of that on the side.
+    pub(crate) lower: VNode,
 }
 
 // Where a list of the upper node fits after a rotation.
@@ -38,7 +42,7 @@ pub(crate) enum Fit {
     Neither,
 }
 
-// What stands on the side.
+// What stands on the side: the prime on the left one, the sub on the right one.
 fn node_on(side: Side, pair: (NodeId, NodeId)) -> NodeId
     ensures { result ≡ on side pair }
 {
@@ -242,27 +246,27 @@ pub(crate) fn rotation_of(side: Side) -> Move
 // at the upper one, and sorts those of the upper one. The only error: out of memory, and then some are not sorted.
 pub(crate) fn rotate_and_sort(
     m: &mut Manager,
-    side: Side,
-    upper: VNode,
-    lower: VNode,
+    rotation: Rotation,
     upper_nodes: &[u32],
     lower_nodes: &[u32],
     entries: &mut Vec<Entry>,
     waiting: &mut Vec<u32>,
 ) -> Result<(), AllocError>
-    requires may { MayRotate m.old side upper lower upper_nodes.now lower_nodes.now }
+    requires may { MayRotate m.old rotation.side rotation.upper rotation.lower upper_nodes.now
+        lower_nodes.now }
     requires table { IsTable m.old }
     ensures going { (old : Table) (u : Numbered)
-        → CanRotate old m.old side upper lower upper_nodes.now lower_nodes.now u
-        → HasBegun old m.new upper }
-    ensures rotated { (left : List ℕ) × HasRotated m.old m.new side upper lower upper_nodes.now
-        lower_nodes.now left entries.old.items entries.new.items waiting.old.items
-        waiting.new.items }
-    ensures all { OnOk result (HasRotated m.old m.new side upper lower upper_nodes.now
-        lower_nodes.now [] entries.old.items entries.new.items waiting.old.items
+        → CanRotate old m.old rotation.side rotation.upper rotation.lower upper_nodes.now
+        lower_nodes.now u → HasBegun old m.new rotation.upper }
+    ensures rotated { (left : List ℕ) × HasRotated m.old m.new rotation.side rotation.upper
+        rotation.lower upper_nodes.now lower_nodes.now left entries.old.items entries.new.items
+        waiting.old.items waiting.new.items }
+    ensures all { OnOk result (HasRotated m.old m.new rotation.side rotation.upper rotation.lower
+        upper_nodes.now lower_nodes.now [] entries.old.items entries.new.items waiting.old.items
         waiting.new.items) }
     ensures table { IsTable m.new }
 {
+    let Rotation { side, upper, lower } = rotation;
     rotate_detached(m, rotation_of(side), upper, lower_nodes);
     sort_upper(m, side, upper, lower, upper_nodes, entries, waiting)
 }

@@ -12,16 +12,16 @@ use Rattle.sd_move.proofs.rotating.rotate_nodes.Goals as goal
 
 pub begin_at_both-requires-clause-child : goal.begin_at_both-requires-clause-child
 begin_at_both-requires-clause-child c =
-    lower_child c.args.m.now (rotation_of c.args.side) c.args.upper c.args.lower c.requires.table.numbered
+    lower_child c.args.m.now (rotation_of c.args.rotation.side) c.args.rotation.upper c.args.rotation.lower c.requires.table.numbered
     c.requires.lower
 
 pub rotate_and_rewrite-done-requires-clause-may : goal.rotate_and_rewrite-done-requires-clause-may
 rotate_and_rewrite-done-requires-clause-may c =
     let m0 = c.args.m.now in
     let m1 = c.begin_at_both.new.m in
-    let side = c.args.side in
-    let x = c.args.upper in
-    let w = c.args.lower in
+    let side = c.args.rotation.side in
+    let x = c.args.rotation.upper in
+    let w = c.args.rotation.lower in
     let f = c.requires.lower in
     let us = c.in-Ok.nodes.0.items in
     let ls = c.in-Ok.nodes.1.items in
@@ -33,16 +33,16 @@ rotate_and_rewrite-done-requires-clause-may c =
 pub rotate_and_rewrite-done-requires-clause-entered : goal.rotate_and_rewrite-done-requires-clause-entered
 rotate_and_rewrite-done-requires-clause-entered c =
     c.in-Ok.ensures.entered
-    ∙ ap (λ l. l ++ map (place_entry c.args.lower) c.in-Ok.nodes.1.items) c.new-named.ensures.items
-    ∙ ap (map (place_entry c.args.lower)) (sym c.deref-in-Ok.ensures.value)
+    ∙ ap (λ l. l ++ map (place_entry c.args.rotation.lower) c.in-Ok.nodes.1.items) c.new-named.ensures.items
+    ∙ ap (map (place_entry c.args.rotation.lower)) (sym c.deref-in-Ok.ensures.value)
 
 pub end_or_go_back-requires-clause-way : goal.end_or_go_back-requires-clause-way
 end_or_go_back-requires-clause-way c =
     let m0 = c.args.m.now in
     let m1 = c.begin_at_both.new.m in
-    let side = c.args.side in
-    let x = c.args.upper in
-    let w = c.args.lower in
+    let side = c.args.rotation.side in
+    let x = c.args.rotation.upper in
+    let w = c.args.rotation.lower in
     let f = c.requires.lower in
     let us = c.in-Ok.nodes.0.items in
     let ls = c.in-Ok.nodes.1.items in
@@ -59,9 +59,9 @@ pub returns-in-Ok-clause-moved : goal.returns-in-Ok-clause-moved
 returns-in-Ok-clause-moved c =
     let m0 = c.args.m.now in
     let m1 = c.begin_at_both.new.m in
-    let side = c.args.side in
-    let x = c.args.upper in
-    let w = c.args.lower in
+    let side = c.args.rotation.side in
+    let x = c.args.rotation.upper in
+    let w = c.args.rotation.lower in
     let f = c.requires.lower in
     let us = c.in-Ok.nodes.0.items in
     let ls = c.in-Ok.nodes.1.items in
@@ -80,9 +80,9 @@ pub returns-in-Ok-clause-back : goal.returns-in-Ok-clause-back
 returns-in-Ok-clause-back c =
     let m0 = c.args.m.now in
     let m1 = c.begin_at_both.new.m in
-    let side = c.args.side in
-    let x = c.args.upper in
-    let w = c.args.lower in
+    let side = c.args.rotation.side in
+    let x = c.args.rotation.upper in
+    let w = c.args.rotation.lower in
     let f = c.requires.lower in
     let us = c.in-Ok.nodes.0.items in
     let ls = c.in-Ok.nodes.1.items in
@@ -99,9 +99,9 @@ pub returns-in-Ok-clause-bound : goal.returns-in-Ok-clause-bound
 returns-in-Ok-clause-bound c =
     let m0 = c.args.m.now in
     let m1 = c.begin_at_both.new.m in
-    let side = c.args.side in
-    let x = c.args.upper in
-    let w = c.args.lower in
+    let side = c.args.rotation.side in
+    let x = c.args.rotation.upper in
+    let w = c.args.rotation.lower in
     let f = c.requires.lower in
     let us = c.in-Ok.nodes.0.items in
     let ls = c.in-Ok.nodes.1.items in
@@ -118,9 +118,9 @@ pub returns-in-Ok-clause-unmarked : goal.returns-in-Ok-clause-unmarked
 returns-in-Ok-clause-unmarked c =
     let m0 = c.args.m.now in
     let m1 = c.begin_at_both.new.m in
-    let side = c.args.side in
-    let x = c.args.upper in
-    let w = c.args.lower in
+    let side = c.args.rotation.side in
+    let x = c.args.rotation.upper in
+    let w = c.args.rotation.lower in
     let f = c.requires.lower in
     let us = c.in-Ok.nodes.0.items in
     let ls = c.in-Ok.nodes.1.items in
@@ -137,9 +137,9 @@ pub returns-in-Ok-clause-serves : goal.returns-in-Ok-clause-serves
 returns-in-Ok-clause-serves c =
     let m0 = c.args.m.now in
     let m1 = c.begin_at_both.new.m in
-    let side = c.args.side in
-    let x = c.args.upper in
-    let w = c.args.lower in
+    let side = c.args.rotation.side in
+    let x = c.args.rotation.upper in
+    let w = c.args.rotation.lower in
     let f = c.requires.lower in
     let us = c.in-Ok.nodes.0.items in
     let ls = c.in-Ok.nodes.1.items in
@@ -160,9 +160,9 @@ pub returns-in-Ok-clause-never_falls : goal.returns-in-Ok-clause-never_falls
 returns-in-Ok-clause-never_falls c =
     let m0 = c.args.m.now in
     let m1 = c.begin_at_both.new.m in
-    let side = c.args.side in
-    let x = c.args.upper in
-    let w = c.args.lower in
+    let side = c.args.rotation.side in
+    let x = c.args.rotation.upper in
+    let w = c.args.rotation.lower in
     let f = c.requires.lower in
     let us = c.in-Ok.nodes.0.items in
     let ls = c.in-Ok.nodes.1.items in
