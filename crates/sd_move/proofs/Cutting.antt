@@ -21,7 +21,7 @@ use Rattle.sd_manager.specs.Views.{pairs_at}
 use Rattle.sd_manager.proofs.Extending.{extends_self, extends_on}
 use Rattle.sd_apply.specs.Elements.{IsPair, products}
 use Rattle.sd_apply.specs.Growing.{GrowsStrictlyBelow}
-use Rattle.sd_apply.specs.Partitions.{IsPartitionOf, AreElementsOf, AreDisjointAt, MultipliesAt}
+use Rattle.sd_apply.specs.Partitions.{IsInnerNode, IsPartitionOf, AreElementsOf, AreDisjointAt, MultipliesAt}
 use Rattle.sd_apply.specs.Places.{HasChildren, IsBelow, IsNodeUnder}
 use Rattle.sd_apply.proofs.AtNode.{elements_below, elements_of_list, elements_append, elements_none, elements_of_on}
 use Rattle.sd_apply.proofs.AtNode.{elements_partition, partition_of_on}
@@ -169,6 +169,20 @@ whole_cell t i p u w e =
       };
       value = λ a. refl;
     })
+
+-- in a larger table too
+pub whole_cell_on : (old new : Table) → IsTable new → Extends old new → (p : ℕ) → (r : IsInnerNode old.vtree p) →
+    IsCell new p 1 (λ _. true)
+whole_cell_on old new i x p r =
+    whole_cell new i p r.left r.right (children_on old new x p r.left r.right r.children)
+
+-- the vtree node has children in a larger table too
+pub inner_on : (old new : Table) → Extends old new → (p : ℕ) → IsInnerNode old.vtree p → IsInnerNode new.vtree p
+inner_on old new x p r = record {
+  left = r.left;
+  right = r.right;
+  children = children_on old new x p r.left r.right r.children;
+}
 
 -- what it is cut into is a partition
 pub whole_cut : (t : Table) (p : ℕ) (l : List (ℕ × ℕ)) (g : List Bool → Bool) → IsCut t p l (λ _. true) g →

@@ -1,4 +1,4 @@
--- The list of a node at a vtree node above its elements: the products of its primes and subs, joined.
+-- The list of a node: it stays, it is read pair by pair, and lists are made of what stands in it.
 use Rattle.std.proofs.Common.{◌≡◌, inl, inr, ℕ, ◌+◌, ◌-◌, ◌≤◌, Bool, true, false, ◌&&◌, ◌||◌, List, [], ◌∷◌}
 use Rattle.std.proofs.Common.{length, drop, Option, Some, None, refl, sym, ◌∙◌, ap, subst, arith}
 use Rattle.std.proofs.Common.{slice_get}
@@ -6,11 +6,7 @@ use Rattle.std.specs.FinMap.{get}
 use Rattle.std.proofs.lemmas.List.{at_drop_more, at_drop_all}
 use Rattle.std.proofs.lemmas.Option.{slice_get_within, get_or_from_slice_get}
 use Rattle.sd_vtree.specs.Numbered.{or_else}
-use Rattle.sd_model.specs.Diagram.{Diagram, Bottom, meaning}
-use Rattle.sd_model.specs.Expression.{combine}
-use Rattle.sd_model.specs.declared.trees.Operation.TheVariants.{And, Or}
-use Rattle.sd_laws.specs.Values.{IsSame, pairs_value}
-use Rattle.sd_laws.proofs.Evaluated.{value_of, value_of_shown}
+use Rattle.sd_model.specs.Diagram.{Diagram, meaning}
 use Rattle.sd_laws.proofs.Lists.{all_at}
 use Rattle.sd_manager.specs.Table.{Table, key_at}
 use Rattle.sd_manager.specs.Shown.{HasNode}
@@ -29,7 +25,6 @@ use Rattle.sd_apply.specs.Partitions.{IsPartitionOf, ExpandsAt}
 use Rattle.sd_apply.proofs.AtNode.{partition_of_on}
 use Rattle.sd_apply.proofs.Growing.{strictly_both}
 use Rattle.sd_apply.proofs.Listed.{node_on}
-use Rattle.sd_apply.proofs.Trees.{bottom_under}
 use Rattle.sd_move.specs.Rewriting.{AreBelow}
 
 -- one product
@@ -55,12 +50,7 @@ pub strictly_three : (a b c d : Table) (p : ℕ) → Extends b c → Extends c d
     GrowsStrictlyBelow b c p → GrowsStrictlyBelow c d p → GrowsStrictlyBelow a d p
 strictly_three a b c d p x y g h k = strictly_both a c d p y (strictly_both a b c p x g h) k
 
--- all products
-
--- false stands below each place
-pub bottom_below : (m : Table) (p : ℕ) → IsBelow m p 0
-bottom_below m p =
-    record { diagram = Bottom; is = record { shows = refl; under = bottom_under m.vtree p } }
+-- the list of a node
 
 -- a node keeps its key
 pub key_stays : (a b : Table) → IsTable b → Extends a b → (n : ℕ) (k : ℕ × List (ℕ × ℕ)) → key_at a n ≡ Some k →
@@ -86,32 +76,6 @@ list_stays a b ta tb e c node low = go node
         pairs_node b c (c - 2050) k.0 code (key_stays a b tb e (c - 2050) k.0 k.1)
         ∙ sym (pairs_node a c (c - 2050) k.0 code k.1)
 
--- What is so of the sum of the first products: it is a partition, and with what the rest adds it has the value of the
--- list.
-pub record IsSum (first now : Table) (p node : ℕ) (sum rest : List (ℕ × ℕ)) : Type 0 where
-  pub value : List Bool → Bool
-  pub partition : IsPartitionOf now p sum value
-  pub whole : (a : List Bool) → (value a || pairs_value (value_of (get first.linked)) rest a)
-      ≡ pairs_value (value_of (get first.linked)) (pairs_at first node) a
-  pub kept : Extends first now
-  pub grown : GrowsStrictlyBelow first now p
-  pub table : IsTable now
-
--- at the begin there is nothing in it
-pub sum_first : (first now : Table) (p node : ℕ) (sum : List (ℕ × ℕ)) → IsTable now → Extends first now →
-    GrowsStrictlyBelow first now p → ExpandsAt first now p 0 sum →
-    IsSum first now p node sum (pairs_at first node)
-unfolding bottom_below
-sum_first first now p node sum t e g x =
-    record {
-      value = meaning Bottom;
-      partition = x.each Bottom (bottom_below first p).is;
-      whole = λ a. refl;
-      kept = e;
-      grown = g;
-      table = t;
-    }
-
 -- the list from an index on begins with the pair there
 pub drop_pair : (l : List (ℕ × ℕ)) (i : ℕ) (e : ℕ × ℕ) → slice_get l i ≡ Some e → drop i l ≡ e ∷ drop (i + 1) l
 drop_pair l i e at =
@@ -126,65 +90,9 @@ pub or_false : (x : Bool) → x ≡ (x || false)
 or_false true = refl
 or_false false = refl
 
--- one product more
-pub sum_more : (first now next : Table) (p node : ℕ) (sum more rest : List (ℕ × ℕ)) (pair : ℕ × ℕ) → IsTable first →
-    IsSum first now p node sum (pair ∷ rest) → IsBelow first p pair.0 → IsBelow first p pair.1 → Extends now next →
-    GrowsStrictlyBelow now next p → IsTable next →
-    ((f : List Bool → Bool) (d e : Diagram) → IsPartitionOf now p sum f → IsNodeUnder now p pair.0 d →
-    IsNodeUnder now p pair.1 e →
-    IsPartitionOf next p more (λ a. combine Or (f a) (combine And (meaning d a) (meaning e a)))) →
-    IsSum first next p node more rest
-sum_more first now next p node sum more rest pair t s prime sub e g t' product =
-    record {
-      value = λ a. combine Or (s.value a) (combine And (meaning prime.diagram a) (meaning sub.diagram a));
-      partition = product s.value prime.diagram sub.diagram s.partition
-          (node_on first now s.kept p pair.0 prime.diagram prime.is)
-          (node_on first now s.kept p pair.1 sub.diagram sub.is);
-      whole = λ a. or_assoc (s.value a) (meaning prime.diagram a && meaning sub.diagram a)
-          (pairs_value (value_of (get first.linked)) rest a)
-          ∙ ap (λ b. s.value a || ((b && meaning sub.diagram a) || pairs_value (value_of (get first.linked)) rest a))
-          (code_is pair.0 prime a)
-          ∙ ap (λ b. s.value a || ((value_of (get first.linked) pair.0 a && b)
-          || pairs_value (value_of (get first.linked)) rest a)) (code_is pair.1 sub a)
-          ∙ s.whole a;
-      kept = extends_on first now next s.kept e;
-      grown = strictly_both first now next p e s.grown g;
-      table = t';
-    }
-  where
-    code_is : (c : ℕ) (b : IsBelow first p c) → IsSame (meaning b.diagram) (value_of (get first.linked) c)
-    code_is c b a =
-        value_of_shown first.vtree (get first.linked) t.numbered c b.diagram
-        (record { shows = b.is.shows; canonical = b.is.under.canonical }) a
-
 pub and_false : (x : Bool) → (x && false) ≡ false
 and_false true = refl
 and_false false = refl
-
--- and none where the sub is false
-pub sum_skips : (first now : Table) (p node : ℕ) (sum rest : List (ℕ × ℕ)) (pair : ℕ × ℕ) → pair.1 ≡ 0 →
-    IsSum first now p node sum (pair ∷ rest) → IsSum first now p node sum rest
-sum_skips first now p node sum rest pair zero s =
-    record {
-      value = s.value;
-      partition = s.partition;
-      whole = λ a. ap (λ b. s.value a || (b || pairs_value (value_of (get first.linked)) rest a))
-          (sym (and_false (value_of (get first.linked) pair.0 a))
-          ∙ ap (λ c. value_of (get first.linked) pair.0 a && value_of (get first.linked) c a) (sym zero)) ∙ s.whole a;
-      kept = s.kept;
-      grown = s.grown;
-      table = s.table;
-    }
-
--- at the end it has the value of the list
-pub sum_last : (first now : Table) (p node : ℕ) (sum : List (ℕ × ℕ)) → IsSum first now p node sum [] →
-    IsPartitionOf now p sum (pairs_value (value_of (get first.linked)) (pairs_at first node))
-sum_last first now p node sum s =
-    record {
-      diagrams = s.partition.diagrams;
-      is = s.partition.is;
-      value = λ a. s.partition.value a ∙ ap (λ b. b ∷ []) (or_false (s.value a) ∙ s.whole a);
-    }
 
 -- what is read of the list is a pair that stands below the place
 pub pair_below : (m : Table) (p node i : ℕ) (e : ℕ × ℕ) → AreBelow m p (pairs_at m node) →
@@ -192,19 +100,6 @@ pub pair_below : (m : Table) (p node i : ℕ) (e : ℕ × ℕ) → AreBelow m p 
 pair_below m p node i e all at =
     all_at (λ (e : ℕ × ℕ). IsBelow m p e.0 × IsBelow m p e.1) (pairs_at m node) e all
     (among_at (pairs_at m node) i e at)
-
--- the pair at an index is the first of what is left, and stands below the place
-pub pair_there : (first now : Table) (p node i : ℕ) (sum : List (ℕ × ℕ)) (pair : ℕ × ℕ) → IsTable first →
-    HasNode first node → 2050 ≤ node → AreBelow first p (pairs_at first node) →
-    IsSum first now p node sum (drop i (pairs_at first node)) → slice_get (pairs_at now node) i ≡ Some pair →
-    IsSum first now p node sum (pair ∷ drop (i + 1) (pairs_at first node))
-    × (IsBelow first p pair.0 × IsBelow first p pair.1)
-pair_there first now p node i sum pair t there low below s at =
-    let same : pairs_at now node ≡ pairs_at first node = list_stays first now t s.table s.kept node there low in
-    let own : slice_get (pairs_at first node) i ≡ Some pair = subst (λ l. slice_get l i ≡ Some pair) same at in (
-      subst (IsSum first now p node sum) (drop_pair (pairs_at first node) i pair own) s,
-      pair_below first p node i pair below own,
-    )
 
 -- how many elements a view has
 abbrev count_of : View → ℕ

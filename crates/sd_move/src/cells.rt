@@ -9,7 +9,9 @@
 // It is cut by the first half of the elements, and each part of that by the other half; then the two sums of each part
 // are joined (`cut`). So a sum of primes is one of two halves: parts that differ elsewhere share it, and the table of
 // answers has it. Sums that take one prime after another would differ in most cells, and each is about as large as the
-// whole. Of up to three products the sums are the same in either way, and no list is put together (`cut_by_few`).
+// whole. Of up to three products the sums are the same in either way, and no list is put together (`cut_in_turn`).
+//
+// Where the list of a node fits no other way, the whole is cut by all of its products in turn (`by_products`).
 ghost use Rattle.std.specs.Prelude.{◌≡◌, ◌≤◌, Bool, List, map, IfOk, IfErr, OnOk};
 ghost use Rattle.std.specs.FinMap.{get};
 ghost use Rattle.sd_laws.specs.Values.{pairs_value};
@@ -64,7 +66,7 @@ fn products_of(
     for index in 0..count {
         let (prime, sub) = m.element(node, index);
         // a false sub adds nothing
-        if sub.0 == 0 {
+        if sub.is_false() {
             continue;
         }
         let product = product_at(alloc, m, recent, place, prime, sub)?;
@@ -76,7 +78,7 @@ fn products_of(
 }
 
 // A cell cut by partitions one after the other. It refuses as `and`.
-fn cut_by_few(
+fn cut_in_turn(
     alloc: Global,
     m: &mut Manager,
     recent: &mut Recent,
@@ -99,7 +101,7 @@ fn cut_by_few(
     ensures table { IsTable m.new }
 {
     let mut list = SmallVec::new(alloc);
-    let Ok(()) = list.push((cell, NodeId(0))) else {
+    let Ok(()) = list.push((cell, NodeId::FALSE)) else {
         return Err(TakeError::OutOfMemory);
     };
     for index in 0..parts.len() {
@@ -180,7 +182,7 @@ fn cut(
     ensures table { IsTable m.new }
 {
     if parts.len() < 4 {
-        return cut_by_few(alloc, m, recent, place, cell, parts);
+        return cut_in_turn(alloc, m, recent, place, cell, parts);
     }
     let half = parts.len() / 2;
     let first = cut(alloc, m, recent, place, cell, &parts[..half])?;
@@ -226,5 +228,31 @@ pub(crate) fn by_cells(
     ensures table { IsTable m.new }
 {
     let products = products_of(alloc, m, recent, place, node)?;
-    cut(alloc, m, recent, place, NodeId(1), &products)
+    cut(alloc, m, recent, place, NodeId::TRUE, &products)
+}
+
+/// The same by one product after the other, whatever its elements stand below. It refuses as `and`.
+pub(crate) fn by_products(
+    alloc: Global,
+    m: &mut Manager,
+    recent: &mut Recent,
+    place: VNode,
+    node: NodeId,
+) -> Result<Pairs, TakeError>
+    requires place { IsInnerNode m.old.vtree place }
+    requires node { HasNode m.old node }
+    requires code { 2050 ≤ node }
+    requires codes { AreBelow m.old place (pairs_at m.old node) }
+    requires knows { Knows recent.old m.old }
+    requires table { IsTable m.old }
+    ensures ok { IfOk result (λ r. IsPartitionOf m.new place r.items
+        (pairs_value (value_of (get m.old.linked)) (pairs_at m.old node))) }
+    ensures kept { Extends m.old m.new }
+    ensures grown { GrowsStrictlyBelow m.old m.new place }
+    ensures knows { Knows recent.new m.new }
+    ensures rule { IfErr result (λ e. KeepsRule m.new e) }
+    ensures table { IsTable m.new }
+{
+    let products = products_of(alloc, m, recent, place, node)?;
+    cut_in_turn(alloc, m, recent, place, NodeId::TRUE, &products)
 }

@@ -9,12 +9,9 @@
 // After a rotation to the left the primes of a node are a partition of the inner left child, and the list has one prime
 // for each sub that is met (`branches.rt`). After a swap its subs stand below the left child, and the list has a prime
 // for each part that they tell apart (`cells.rt`). Otherwise it is the disjunction of the products of primes and subs
-// (`by_products`), each of which is multiplied with what was made before: quadratic in the number of elements.
-ghost use Rattle.std.specs.Prelude.{◌≡◌, ◌∷◌, ℕ, ◌≤◌, Bool, List, [], map, Some, IfOk, IfSome, OnOk, OnErr, IfErr};
+// (`by_products` there), each of which is multiplied with what was made before: quadratic in the number of elements.
+ghost use Rattle.std.specs.Prelude.{◌≡◌, ◌∷◌, ℕ, ◌≤◌, List, [], map, Some, IfOk, IfSome, OnOk, OnErr, IfErr};
 ghost use Rattle.sd_model.specs.Tree.{AreDistinct};
-ghost use Rattle.sd_model.specs.Diagram.{Diagram, meaning};
-ghost use Rattle.sd_model.specs.Expression.{combine};
-ghost use Rattle.sd_model.specs.declared.trees.Operation.TheVariants.{And, Or};
 ghost use Rattle.std.specs.FinMap.{get};
 ghost use Rattle.sd_laws.specs.Values.{Valuation, pairs_value, IsWhole};
 ghost use Rattle.sd_laws.proofs.Evaluated.{value_of};
@@ -25,7 +22,7 @@ ghost use Rattle.sd_manager.specs.Views.{pairs_at};
 ghost use Rattle.sd_manager.specs.Making.{Extends, KeepsRule};
 ghost use Rattle.sd_apply.specs.Growing.{GrowsStrictlyBelow};
 ghost use Rattle.sd_apply.specs.Partitions.{IsInnerNode, IsPartitionOf};
-ghost use Rattle.sd_apply.specs.Places.{IsBelow, IsNodeUnder};
+ghost use Rattle.sd_apply.specs.Places.{HasChildren};
 ghost use Rattle.sd_apply.specs.Recent.{Knows};
 ghost use Rattle.sd_apply.specs.Serving.{Serves};
 ghost use Rattle.sd_move.specs.Branches.{IsCornerOf};
@@ -33,95 +30,21 @@ ghost use Rattle.sd_move.specs.Moving.{Progress};
 ghost use Rattle.sd_move.specs.Rewriting.{AreBelow, CanRewriteAll, MayRewriteAll, AreRewritten};
 ghost use Rattle.sd_move.specs.Rewriting.{HasRewritten, GoesOn};
 
-use crate::branches::{Corner, by_branches, product_at};
-use crate::cells::by_cells;
+use crate::branches::{Corner, by_branches};
+use crate::cells::{by_cells, by_products};
 use crate::journal::Entry;
 use crate::sorting::are_below;
-use sd_apply::{Pairs, Recent, expand_at, merge_at, multiply_at};
+use sd_apply::{Pairs, Recent, merge_at};
 use sd_cache::Cache;
-use sd_manager::{Manager, NodeId, View};
-use sd_model::{Operation, Side};
+use sd_manager::{Manager, NodeId};
+use sd_model::Side;
 use sd_runs::TakeError;
 use sd_vtree::VNode;
 use std::alloc::Global;
 
-// A partition of a vtree node, with the conjunction of two nodes below it joined to its value.
-fn with_product(
-    alloc: Global,
-    m: &mut Manager,
-    recent: &mut Recent,
-    place: VNode,
-    sum: &[(NodeId, NodeId)],
-    prime: NodeId,
-    sub: NodeId,
-) -> Result<Pairs, TakeError>
-    requires place { IsInnerNode m.old.vtree place }
-    requires sum { (f : List Bool → Bool) × IsPartitionOf m.old place sum.now f }
-    requires prime { IsBelow m.old place prime }
-    requires sub { IsBelow m.old place sub }
-    requires knows { Knows recent.old m.old }
-    ensures ok { IfOk result (λ r. (f : List Bool → Bool) (d e : Diagram)
-        → IsPartitionOf m.old place sum.now f → IsNodeUnder m.old place prime d
-        → IsNodeUnder m.old place sub e → IsPartitionOf m.new place r.items
-        (λ a. combine Or (f a) (combine And (meaning d a) (meaning e a)))) }
-    ensures kept { Extends m.old m.new }
-    ensures grown { GrowsStrictlyBelow m.old m.new place }
-    ensures knows { Knows recent.new m.new }
-    ensures rule { IfErr result (λ e. KeepsRule m.new e) }
-    ensures table { IsTable m.new }
-{
-    let product = product_at(alloc, m, recent, place, prime, sub)?;
-    multiply_at(
-        alloc,
-        m,
-        recent,
-        Operation::Or,
-        place,
-        sum,
-        product.as_slice(),
-    )
-}
-
-// A node's elements as a partition of a vtree node at which or below which they stand, with its value. It refuses as
-// `and`.
-fn by_products(
-    alloc: Global,
-    m: &mut Manager,
-    recent: &mut Recent,
-    place: VNode,
-    node: NodeId,
-) -> Result<Pairs, TakeError>
-    requires place { IsInnerNode m.old.vtree place }
-    requires node { HasNode m.old node }
-    requires code { 2050 ≤ node }
-    requires codes { AreBelow m.old place (pairs_at m.old node) }
-    requires knows { Knows recent.old m.old }
-    requires table { IsTable m.old }
-    ensures ok { IfOk result (λ r. IsPartitionOf m.new place r.items
-        (pairs_value (value_of (get m.old.linked)) (pairs_at m.old node))) }
-    ensures kept { Extends m.old m.new }
-    ensures grown { GrowsStrictlyBelow m.old m.new place }
-    ensures knows { Knows recent.new m.new }
-    ensures rule { IfErr result (λ e. KeepsRule m.new e) }
-    ensures table { IsTable m.new }
-{
-    let View::Decomposition { count, .. } = m.view(node) else {
-        unreachable!()
-    };
-    let mut sum = expand_at(alloc, m, recent, place, NodeId(0))?;
-    for index in 0..count {
-        let (prime, sub) = m.element(node, index);
-        // a false sub adds nothing
-        if sub.0 == 0 {
-            continue;
-        }
-        sum = with_product(alloc, m, recent, place, sum.as_slice(), prime, sub)?;
-    }
-    Ok(sum)
-}
-
-// The same partition in the way that fits. After a swap all subs stand below the left child, and after a rotation to
-// the left all primes below the left child of that.
+// A node's elements as a partition of a vtree node at which or below which they stand, with its value, in the way that
+// fits. After a swap all subs stand below the left child, and after a rotation to
+// the left all primes below the left child of that. It refuses as `and`.
 fn partition_at(
     alloc: Global,
     m: &mut Manager,
@@ -144,10 +67,13 @@ fn partition_at(
     ensures rule { IfErr result (λ e. KeepsRule m.new e) }
     ensures table { IsTable m.new }
 {
-    if has_left_subs(m, place, node) {
+    let Some(children) = m.vtree().children(place) else {
+        unreachable!()
+    };
+    if are_below(m, place, node.0 - 2050, Side::Right, children.0) {
         return by_cells(alloc, m, recent, place, node);
     }
-    let Some(corner) = corner_of(m, place, node) else {
+    let Some(corner) = corner_of(m, place, children, node) else {
         return by_products(alloc, m, recent, place, node);
     };
     match by_branches(alloc, m, recent, &corner, node)? {
@@ -156,23 +82,10 @@ fn partition_at(
     }
 }
 
-// Whether all subs of a node stand below the left child of a vtree node.
-fn has_left_subs(m: &Manager, place: VNode, node: NodeId) -> bool
-    requires place { IsInnerNode m.now.vtree place }
-    requires node { HasNode m.now node }
-    requires code { 2050 ≤ node }
-    requires codes { AreBelow m.now place (pairs_at m.now node) }
-    requires table { IsTable m.now }
-{
-    let Some(children) = m.vtree().children(place) else {
-        unreachable!()
-    };
-    are_below(m, place, node.0 - 2050, Side::Right, children.0)
-}
-
-// A vtree node whose left child has children, where the primes of a node stand below the left one of these.
-fn corner_of(m: &Manager, place: VNode, node: NodeId) -> Option<Corner>
-    requires place { IsInnerNode m.now.vtree place }
+// A vtree node with these children, where the left one has children itself, and the primes of a node stand below the
+// left one of these.
+fn corner_of(m: &Manager, place: VNode, children: (VNode, VNode), node: NodeId) -> Option<Corner>
+    requires place { HasChildren m.now.vtree place children.0 children.1 }
     requires node { HasNode m.now node }
     requires code { 2050 ≤ node }
     requires codes { AreBelow m.now place (pairs_at m.now node) }
@@ -180,20 +93,17 @@ fn corner_of(m: &Manager, place: VNode, node: NodeId) -> Option<Corner>
     requires table { IsTable m.now }
     ensures { IfSome result (λ c. IsCornerOf m.now place (pairs_at m.now node) c) }
 {
-    let vtree = m.vtree();
-    let Some(children) = vtree.children(place) else {
-        unreachable!()
-    };
-    let Some(inner) = vtree.children(children.0) else {
+    let (lower, right) = children;
+    let Some(inner) = m.vtree().children(lower) else {
         return None;
     };
     if are_below(m, place, node.0 - 2050, Side::Left, inner.0) {
         return Some(Corner {
             upper: place,
-            lower: children.0,
+            lower,
             left: inner.0,
             middle: inner.1,
-            right: children.1,
+            right,
         });
     }
     None

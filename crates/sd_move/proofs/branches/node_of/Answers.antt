@@ -1,4 +1,4 @@
-use Rattle.std.proofs.Common.{Bool, List, subst, sym}
+use Rattle.std.proofs.Common.{Bool, List}
 use Rattle.std.proofs.lemmas.Result.{IfOk-weaker}
 use Rattle.sd_model.specs.Diagram.{Diagram}
 use Rattle.sd_manager.specs.Shown.{IsPartitionAt}

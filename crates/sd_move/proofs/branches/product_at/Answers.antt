@@ -1,4 +1,3 @@
-use Rattle.std.proofs.Common.{Bool, List}
 use Rattle.std.proofs.lemmas.Result.{IfOk-weaker}
 use Rattle.sd_model.specs.Diagram.{Diagram, meaning}
 use Rattle.sd_model.specs.Expression.{combine}

@@ -6,29 +6,20 @@ use Rattle.sd_laws.proofs.Evaluated.{value_of}
 use Rattle.sd_manager.specs.Views.{pairs_at}
 use Rattle.sd_manager.proofs.Extending.{extends_on}
 use Rattle.sd_apply.specs.Partitions.{IsPartitionOf}
-use Rattle.sd_apply.proofs.Listed.{children_on}
 use Rattle.sd_move.specs.Cells.{IsCell, IsCut, ArePartitions}
-use Rattle.sd_move.proofs.Cutting.{whole_cell, whole_cut}
+use Rattle.sd_move.proofs.Cutting.{inner_on, whole_cell_on, whole_cut}
 use Rattle.sd_move.proofs.cells.by_cells.Goals as goal
 
 pub cut-requires-clause-place : goal.cut-requires-clause-place
 cut-requires-clause-place c =
-    let r = c.requires.place in
-    record {
-      left = r.left;
-      right = r.right;
-      children = children_on c.args.m.now c.products_of.new.m c.products_of.ensures.kept c.args.place r.left r.right
-          r.children;
-    }
+    inner_on c.args.m.now c.products_of.new.m c.products_of.ensures.kept c.args.place c.requires.place
 
 pub cut-requires-clause-cell : goal.cut-requires-clause-cell
-cut-requires-clause-cell c =
-    let r = c.requires.place in
-    let n = c.products_of.new.m in (
-      (λ _. true),
-      whole_cell n c.products_of.ensures.table c.args.place r.left r.right
-          (children_on c.args.m.now n c.products_of.ensures.kept c.args.place r.left r.right r.children),
-    )
+cut-requires-clause-cell c = (
+  (λ _. true),
+  whole_cell_on c.args.m.now c.products_of.new.m c.products_of.ensures.table c.products_of.ensures.kept c.args.place
+      c.requires.place,
+)
 
 pub cut-requires-clause-parts : goal.cut-requires-clause-parts
 cut-requires-clause-parts c =
@@ -44,15 +35,13 @@ returns-clause-ok c =
     let n = c.products_of.new.m in
     let o = c.cut.new.m in
     let p = c.args.place in
-    let r = c.requires.place in
     let g = pairs_value (value_of (get m.linked)) (pairs_at m c.args.node) in
     let lists = map (λ q. q.items) c.deref.result.now in
     IfOk-weaker c.cut.result
     (λ r. (f h : List Bool → Bool) → IsCell n p 1 f → ArePartitions n p lists h → IsCut o p r.items f h)
     (λ r. IsPartitionOf o p r.items g)
     (λ k h. whole_cut o p k.items g (h (λ _. true) g
-    (whole_cell n c.products_of.ensures.table p r.left r.right
-    (children_on m n c.products_of.ensures.kept p r.left r.right r.children))
+    (whole_cell_on m n c.products_of.ensures.table c.products_of.ensures.kept p c.requires.place)
     (subst (λ l. ArePartitions n p (map (λ q. q.items) l) g) (sym c.deref.ensures.value)
     c.in_ok-products.ensures.ok)))
     c.cut.ensures.ok

@@ -1,4 +1,4 @@
-use Rattle.std.proofs.Common.{◌+◌, ◌∙◌, ◌∷◌, [], drop, map, ap, sym, subst}
+use Rattle.std.proofs.Common.{◌+◌, ◌∙◌, ◌∷◌, [], drop, map, ap, refl, sym, subst}
 use Rattle.std.proofs.lemmas.List.{map-append}
 use Rattle.sd_manager.specs.Views.{pairs_at}
 use Rattle.sd_manager.proofs.Extending.{extends_on}
@@ -69,8 +69,8 @@ returns-in_err-product-clause-kept c =
 
 -- a false sub
 
-pub loop-index-preserved-then-sub-eq0 : goal.loop-index-preserved-then-sub-eq0
-loop-index-preserved-then-sub-eq0 c =
+pub loop-index-preserved-then-is_false : goal.loop-index-preserved-then-is_false
+loop-index-preserved-then-is_false c =
     let m = c.args.m.now in
     let now = c.loop-index.m in
     let lists = map (λ q. q.items) c.loop-index.products.items in
@@ -78,6 +78,6 @@ loop-index-preserved-then-sub-eq0 c =
     let w = listing_there m now c.args.place c.args.node c.loop-index.index lists c.element-prime.result
     c.requires.table c.requires.node c.requires.code c.requires.codes s c.element-prime.ensures.pair in (
       listing_skips m now c.args.place c.args.node lists (drop (c.loop-index.index + 1) (pairs_at m c.args.node))
-          c.element-prime.result (sym c.sub.view_is ∙ c.if-sub-eq0.true) w.0,
+          c.element-prime.result (c.if-is_false.ensures.0 refl) w.0,
       c.loop-index.invariant.1,
     )

@@ -1,22 +1,23 @@
 use Rattle.std.proofs.Common.{◌+◌, ◌-◌, ◌<◌, ◌∙◌, length, sym, ap, subst, arith}
 use Rattle.sd_vtree.specs.Numbered.{numbers}
+use Rattle.sd_vtree.proofs.Under.{under_within}
 use Rattle.sd_apply.specs.Places.{HasChildren}
-use Rattle.sd_apply.proofs.AtNode.{inner_within}
 use Rattle.sd_apply.proofs.Trees.{there_inner}
-use Rattle.sd_move.proofs.Spreading.{node_key, primes_below}
+use Rattle.sd_move.proofs.Spreading.{left_child_under, node_key, primes_below}
 use Rattle.sd_move.proofs.Branching.{left_left_under, corner_is}
 use Rattle.sd_move.proofs.rewriting.corner_of.Goals as goal
 
 pub children-requires : goal.children-requires
 children-requires c =
-    let r = c.requires.place in
-    subst (λ t. c.args.place < length (numbers t)) (sym c.vtree-vtree.ensures.vtree)
-    (inner_within c.args.m.now.vtree c.requires.table.numbered c.args.place r.left r.right r.children)
+    let x = c.args.children in
+    subst (λ t. x.0 < length (numbers t)) (sym c.vtree.ensures.vtree)
+    (under_within c.args.m.now.vtree c.requires.table.numbered x.0 c.args.place
+    (left_child_under c.args.m.now c.requires.table c.args.place x.0 x.1 c.requires.place))
 
 pub are_below-requires-clause-at : goal.are_below-requires-clause-at
 are_below-requires-clause-at c =
-    let r = c.requires.place in
-    there_inner c.args.m.now.vtree c.requires.table.numbered c.args.place r.left r.right r.children
+    let x = c.args.children in
+    there_inner c.args.m.now.vtree c.requires.table.numbered c.args.place x.0 x.1 c.requires.place
 
 pub are_below-requires-clause-number : goal.are_below-requires-clause-number
 are_below-requires-clause-number c =
@@ -30,24 +31,16 @@ are_below-requires-clause-each c =
 
 pub are_below-requires-clause-under : goal.are_below-requires-clause-under
 are_below-requires-clause-under c =
-    let p = c.args.place in
-    let x = c.in-Some.children in
-    let y = c.in-Some-children.inner in
-    left_left_under c.args.m.now c.requires.table p x.0 y.0 y.1 x.1
-    (subst (λ t. HasChildren t p x.0 x.1) c.vtree-vtree.ensures.vtree
-    (sym c.in-Some.is ∙ c.children.ensures.children))
-    (subst (λ t. HasChildren t x.0 y.0 y.1) c.vtree-vtree.ensures.vtree
-    (sym c.in-Some-children.is ∙ c.children-2.ensures.children))
+    let x = c.args.children in
+    let y = c.in-Some.inner in
+    left_left_under c.args.m.now c.requires.table c.args.place x.0 y.0 y.1 x.1 c.requires.place
+    (subst (λ t. HasChildren t x.0 y.0 y.1) c.vtree.ensures.vtree (sym c.in-Some.is ∙ c.children.ensures.children))
 
 pub returns-then-are_below : goal.returns-then-are_below
 returns-then-are_below c =
-    let p = c.args.place in
-    let x = c.in-Some.children in
-    let y = c.in-Some-children.inner in
-    corner_is c.args.m.now c.requires.table p x.0 y.0 y.1 x.1 c.args.node (2050 + (c.node.inside.0 - 2050))
-    (omega (arith, c.requires.code, c.node.view_is))
-    (subst (λ t. HasChildren t p x.0 x.1) c.vtree-vtree.ensures.vtree
-    (sym c.in-Some.is ∙ c.children.ensures.children))
-    (subst (λ t. HasChildren t x.0 y.0 y.1) c.vtree-vtree.ensures.vtree
-    (sym c.in-Some-children.is ∙ c.children-2.ensures.children)) c.requires.codes c.requires.whole
-    c.are_below.result c.if-are_below.true c.are_below.ensures.tells
+    let x = c.args.children in
+    let y = c.in-Some.inner in
+    corner_is c.args.m.now c.requires.table c.args.place x.0 y.0 y.1 x.1 c.args.node (2050 + (c.node.inside.0 - 2050))
+    (omega (arith, c.requires.code, c.node.view_is)) c.requires.place
+    (subst (λ t. HasChildren t x.0 y.0 y.1) c.vtree.ensures.vtree (sym c.in-Some.is ∙ c.children.ensures.children))
+    c.requires.codes c.requires.whole c.are_below.result c.if-are_below.true c.are_below.ensures.tells

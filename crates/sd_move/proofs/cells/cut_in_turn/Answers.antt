@@ -1,7 +1,7 @@
 use Rattle.std.proofs.Common.{◌+◌, drop, map, sym, subst}
 use Rattle.sd_apply.specs.Partitions.{AreDisjointAt, IsPartitionOf}
 use Rattle.sd_move.proofs.Cutting.{IsCutting, cutting_more, cutting_last, lists_end, lists_from, part_there}
-use Rattle.sd_move.proofs.cells.cut_by_few.Goals as goal
+use Rattle.sd_move.proofs.cells.cut_in_turn.Goals as goal
 
 pub multiply_at-requires-clause-first : goal.multiply_at-requires-clause-first
 multiply_at-requires-clause-first c =

@@ -1,7 +1,7 @@
 use Rattle.std.proofs.Common.{drop, map}
 use Rattle.sd_apply.specs.Recent.{Knows}
 use Rattle.sd_move.proofs.Cutting.{IsCutting}
-use Rattle.sd_move.proofs.cells.cut_by_few.Given as goal
+use Rattle.sd_move.proofs.cells.cut_in_turn.Given as goal
 
 abbrev pub invariant-loop-index : goal.invariant-loop-index
 invariant-loop-index l =

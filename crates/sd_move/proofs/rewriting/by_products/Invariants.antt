@@ -1,9 +1,0 @@
-use Rattle.std.proofs.Common.{drop}
-use Rattle.sd_manager.specs.Views.{pairs_at}
-use Rattle.sd_apply.specs.Recent.{Knows}
-use Rattle.sd_move.proofs.NewList.{IsSum}
-use Rattle.sd_move.proofs.rewriting.by_products.Given as goal
-
-abbrev pub invariant-loop-index : goal.invariant-loop-index
-invariant-loop-index l =
-    IsSum l.fn.m l.m l.fn.place l.fn.node l.sum.items (drop l.index (pairs_at l.fn.m l.fn.node)) × Knows l.recent l.m
