@@ -137,7 +137,7 @@ not_not false = refl
 code_at : (t : Table) (a b : ℕ) (x : Diagram) → Shows t a x → a ≡ b → Shows t b x
 code_at t a b x h e = let S : ℕ → Type 0 = λ c. Shows t c x in subst S e h
 
-shows_false : (t : Table) → IsTable t → (a : ℕ) (x : Diagram) → Shows t a x → a ≡ 0 →
+pub shows_false : (t : Table) → IsTable t → (a : ℕ) (x : Diagram) → Shows t a x → a ≡ 0 →
     (g : List Bool) → meaning x g ≡ false
 shows_false t i a x h e g =
     ap (λ d. meaning d g) (bottom_from_code t.vtree (get t.linked) i.numbered x (code_at t a 0 x h
@@ -148,7 +148,7 @@ pub shows_true : (t : Table) → IsTable t → (a : ℕ) (x : Diagram) → Shows
 shows_true t i a x h e g =
     ap (λ d. meaning d g) (top_from_code t.vtree (get t.linked) i.numbered x (code_at t a 1 x h e))
 
-shows_same : (t : Table) → IsTable t → (a b : ℕ) (x y : Diagram) → Shows t a x → Shows t b y →
+pub shows_same : (t : Table) → IsTable t → (a b : ℕ) (x y : Diagram) → Shows t a x → Shows t b y →
     a ≡ b → (g : List Bool) →
     meaning y g ≡ meaning x g
 shows_same t i a b x y h k e g =

@@ -1,6 +1,6 @@
--- The operations by their numbers, and the value of each: 0 to 5 are and, or, exclusive or,
--- negation, given and forget.
-use Rattle.std.specs.Prelude.{ℕ, Bool, true, false, not, ◌||◌, List, ◌==◌, if◌then◌else◌}
+-- The operations by their numbers, and the value of each: 0 to 6 are and, or, exclusive or,
+-- negation, given, forget and difference.
+use Rattle.std.specs.Prelude.{ℕ, Bool, true, false, not, ◌&&◌, ◌||◌, List, ◌==◌, if◌then◌else◌}
 use Rattle.sd_model.specs.declared.trees.Operation.{Operation}
 use Rattle.sd_model.specs.declared.trees.Operation.TheVariants.{And, Or, Xor}
 use Rattle.sd_model.specs.Assignment.{with_value}
@@ -25,7 +25,8 @@ operation_value n x y a =
     else (if n == 1 then combine Or (meaning x a) (meaning y a)
     else (if n == 2 then combine Xor (meaning x a) (meaning y a)
     else (if n == 3 then not (meaning x a)
-    else (if n == 4 then given_value x y a else forgotten_value x y a))))
+    else (if n == 4 then given_value x y a
+    else (if n == 5 then forgotten_value x y a else meaning x a && not (meaning y a))))))
 
 -- ---- for the contracts of private functions
 

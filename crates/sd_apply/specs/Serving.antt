@@ -24,10 +24,10 @@ pub record IsArgument (operation b : ℕ) (second : Diagram) : Type 0 where
   pub given : operation ≡ 4 → IsLiteralDiagram second
   pub forget : operation ≡ 5 → IsVariable second
 
--- an entry is of one of the six operations, and names nodes that show canonical diagrams, and an
+-- an entry is of one of the seven operations, and names nodes that show canonical diagrams, and an
 -- answer with the value of the operation at them
 pub record IsRight (t : Table) (e : Call × ℕ) : Type 0 where
-  pub served : e.0.operation ≤ 5
+  pub served : e.0.operation ≤ 6
   pub first : Diagram
   pub second : Diagram
   pub first_is : ShowsCanonical t e.0.a first

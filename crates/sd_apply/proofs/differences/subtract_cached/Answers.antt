@@ -1,0 +1,27 @@
+use Rattle.std.proofs.Common.{◌≡◌, ◌∙◌, sym, Some, None}
+use Rattle.std.proofs.lemmas.Result.{IfOk-weaker}
+use Rattle.sd_apply.specs.Calls.{NegatesAt}
+use Rattle.sd_apply.specs.Difference.{SubtractsAt}
+use Rattle.sd_apply.proofs.Growing.{both_second}
+use Rattle.sd_apply.proofs.AndNot.{known_at, known_subtracts, are_unknown, true_subtracts}
+use Rattle.sd_apply.proofs.differences.subtract_cached.Goals as goal
+
+pub returns-in-Some-clause-ok : goal.returns-in-Some-clause-ok
+returns-in-Some-clause-ok c =
+    known_subtracts c.args.m.now c.vtree.ensures.table c.args.at c.args.a c.args.b c.in-Some.code
+    (known_at c.args.a c.args.b c.a.inside.0 c.b.inside.0 (Some c.in-Some.code) c.a.view_is c.b.view_is
+    c.in-Some.ensures)
+
+pub returns-then-a-eq1-clause-ok : goal.returns-then-a-eq1-clause-ok
+returns-then-a-eq1-clause-ok c =
+    let m = c.args.m.now in
+    let n = c.negate_cached.new.m in
+    let one : c.args.a ≡ 1 = sym c.a.view_is ∙ c.if-a-eq1.true in
+    IfOk-weaker c.negate_cached.result (λ r. NegatesAt m n c.args.at c.args.b r)
+    (λ r. SubtractsAt m n c.args.at c.args.a c.args.b r)
+    (λ r h. true_subtracts m n c.vtree.ensures.table c.args.at c.args.a c.args.b r one h)
+    c.negate_cached.ensures.ok
+
+pub returns-then-a-eq1-clause-grown : goal.returns-then-a-eq1-clause-grown
+returns-then-a-eq1-clause-grown c =
+    both_second c.args.m.now c.negate_cached.new.m c.args.a c.args.b c.negate_cached.ensures.grown
