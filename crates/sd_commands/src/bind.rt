@@ -68,7 +68,7 @@ pub(crate) fn bind_input(
         state.old.manager.vtree) }
     ensures roots { root_count state.new ≤ root_count state.old + 1 }
 {
-    // what compiling makes and sweeps tells of no epoch
+    // the nodes of gates may be gone behind what compiling sweeps
     state.forget_gates();
     match state.every {
         None => bind_compiled(alloc, input, state, name),

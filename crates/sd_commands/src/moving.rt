@@ -41,7 +41,7 @@ pub(crate) fn turn_at(
         state.old.manager.vtree) }
     ensures roots { root_count state.new ≤ root_count state.old + 1 }
 {
-    // a move tells of no epoch
+    // the nodes of gates may be gone behind a move
     state.forget_gates();
     let Some(place) = state.manager.vtree().at_position(position) else {
         return Err(CommandError::NotMovable);

@@ -89,7 +89,7 @@ pub fn input_by_parts<R: Threads + Sync, G: Gate + Send + Drop>(
     ensures vtree { state.new.manager.vtree ≡ state.old.manager.vtree }
     ensures roots { root_count state.new ≤ root_count state.old + 1 }
 {
-    // what the join makes and sweeps tells of no epoch
+    // the nodes of gates may be gone behind a join
     state.forget_gates();
     let answers = match answers_of(rt, alloc, input, state, workers, gates) {
         Ok(answers) => answers,
@@ -214,7 +214,7 @@ fn full_manager(answer: PartAnswer) -> Option<Manager>
 /// Opens a run by a choice: the input is compiled alone over each start tree, under a limit, by at most so many
 /// workers, of which there are 1 to 16, and searched there, where rounds are given. The start with the least size is
 /// taken, the first in the order balanced, right, left among equals, and the run goes on with what was made over it.
-/// Where an arena was full, the manager is that of the first start in this order at which room or memory lacked.
+/// Where an arena was full, the manager is that of a start with a full arena.
 /// The gates are those of the starts in this order; each is entered with the start's number in it, counted from 0.
 pub fn open_chosen<R: Threads + Sync, G: Gate + Send + Drop>(
     rt: &R,

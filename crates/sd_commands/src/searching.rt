@@ -32,7 +32,7 @@ pub(crate) fn search(
         state.old.manager.vtree) }
     ensures roots { root_count state.new ≤ root_count state.old + 1 }
 {
-    // the moves of a search tell of no epoch
+    // the nodes of gates may be gone behind a search
     state.forget_gates();
     total_of_formulas(&state.manager);
     let slack = state.slack;

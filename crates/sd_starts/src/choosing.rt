@@ -32,9 +32,8 @@ pub struct Chosen {
 }
 
 /// Why no start was chosen. By the limit: the formula passes it at each start, and the group and the size are those at
-/// the balanced one. By a full arena: so stopped the work at the first start, in the order balanced, right, left, at
-/// which room or memory lacked. The contract says of each before it that it may have had room. For want of memory: no
-/// contract says where it lacked.
+/// the balanced one. By a full arena: that of a start, where the work at each start before it, in the order balanced,
+/// right, left, may have had room. For want of memory: no contract says where it lacked.
 #[derive(Drop)]
 pub struct Refused {
     pub error: CompileError,
