@@ -1,13 +1,12 @@
 -- The stack of gates that are looked at: one more gate, and one that is made.
-use Rattle.std.proofs.Common.{◌≡◌, ◌≢◌, ◌⊎◌, ℕ, zero, suc, ◌+◌, ◌-◌, ◌*◌, ◌<◌, ◌≤◌, true, List, [], ◌∷◌, ◌++◌, length}
+use Rattle.std.proofs.Common.{◌≡◌, ◌≢◌, ◌⊎◌, ℕ, zero, suc, ◌+◌, ◌-◌, ◌*◌, ◌<◌, ◌≤◌, List, [], ◌∷◌, ◌++◌, length}
 use Rattle.std.proofs.Common.{get_or, take, None, refl, sym, ◌∙◌, ap, subst, arith, inl, inr}
 use Rattle.std.specs.Prelude.{Option}
 use Rattle.std.proofs.lemmas.Bool.{cases_lt}
 use Rattle.std.proofs.lemmas.List.{get_or_append_left, length-append, length-take-le}
 use Rattle.std.proofs.Math.Seq.{get_or-append_seam}
 use Rattle.std.proofs.Common.{get_or-take}
-use Rattle.sd_gates.specs.Sharing.{node_at}
-use Rattle.sd_gates.specs.Making.{IsDescent, current, work_left, blanks}
+use Rattle.sd_gates.specs.Making.{IsDescent, current, work_left, blanks, either_at}
 
 -- the gate on the top is none above the bottom
 pub current_most : (nodes : List (Option ℕ)) (top : ℕ) (stack : List ℕ) → IsDescent nodes top stack
@@ -18,7 +17,7 @@ current_most nodes top (x ∷ xs) descent =
 
 -- the gate on the top has no node, where the one at the bottom has none
 pub current_blank : (nodes : List (Option ℕ)) (top : ℕ) (stack : List ℕ) → IsDescent nodes top stack
-    → node_at nodes top true ≡ None → node_at nodes (current top stack) true ≡ None
+    → either_at nodes top ≡ None → either_at nodes (current top stack) ≡ None
 current_blank nodes top [] descent none = none
 current_blank nodes top (x ∷ xs) descent none = descent.blank (length xs) (omega arith)
 
@@ -35,7 +34,7 @@ pub push_less : (nodes : List (Option ℕ)) (top : ℕ) (stack : List ℕ) (x : 
 push_less nodes top stack x less = rw (current_pushed top stack x) (omega (arith, less))
 
 pub push_descent : (nodes : List (Option ℕ)) (top : ℕ) (stack : List ℕ) (x : ℕ) → IsDescent nodes top stack
-    → x < current top stack → node_at nodes x true ≡ None → IsDescent nodes top (stack ++ x ∷ [])
+    → x < current top stack → either_at nodes x ≡ None → IsDescent nodes top (stack ++ x ∷ [])
 push_descent nodes top stack x descent less none = record {
   falls = λ i j h l. falls i j h l (cases_lt j (suc (length stack)));
   blank = λ i h. blank i h (cases_lt i (length stack));
@@ -72,14 +71,14 @@ push_descent nodes top stack x descent less none = record {
         rw (last j end l, kept i (omega (arith, h, l, long))) (omega (arith, k, less))
 
     blank : (i : ℕ) → i < length (stack ++ x ∷ []) → ((i < length stack) ⊎ (length stack ≤ i))
-        → node_at nodes (get_or (stack ++ x ∷ []) i 0) true ≡ None
+        → either_at nodes (get_or (stack ++ x ∷ []) i 0) ≡ None
     blank i h (inl inside) = rw (get_or_append_left stack (x ∷ []) 0 i inside) (descent.blank i inside)
     blank i h (inr end) = rw (last (suc i) (omega (arith, end)) (omega (arith, h))) none
 
 -- ---- one that is made
 
 pub pop_descent : (old new : List (Option ℕ)) (top : ℕ) (stack : List ℕ) → IsDescent old top stack
-    → ((other : ℕ) → other ≢ current top stack → node_at new other true ≡ node_at old other true)
+    → ((other : ℕ) → other ≢ current top stack → either_at new other ≡ either_at old other)
     → IsDescent new top (take (length stack - 1) stack)
 pop_descent old new top stack descent others = record {
   falls = λ i j h l.

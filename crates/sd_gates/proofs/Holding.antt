@@ -11,14 +11,13 @@ use Rattle.std.proofs.lemmas.List.{get_or_append_left, length-append}
 use Rattle.std.proofs.Math.Seq.{get_or-append_seam}
 use Rattle.sd_runs.proofs.Maps.{get_insert_same, get_insert_other, get_remove_same, get_remove_other, same_at_each}
 use Rattle.sd_manager.specs.Table.{Table}
-use Rattle.sd_manager.specs.Making.{with_root, without_root}
 use Rattle.sd_manager.specs.Marking.{AreUnmarked}
 use Rattle.sd_manager.specs.Shown.{IsNodeOf}
 use Rattle.sd_manager.proofs.Holding.{len_more}
 use Rattle.sd_manager.proofs.Extending.{extends_self}
 use Rattle.sd_cache.specs.Entries.{Answers}
 use Rattle.sd_apply.specs.Serving.{Serves}
-use Rattle.sd_sweep.specs.Reached.{reached_first, reached_below, IsReached, IsHeldBy, IsInRun, KeepsReached}
+use Rattle.sd_sweep.specs.Reached.{reached_first, reached_below, IsReached, KeepsReached}
 use Rattle.sd_sweep.specs.Falling.{NeverFalls}
 use Rattle.sd_sweep.proofs.Keeping.{keeps_both}
 use Rattle.sd_compile.specs.Compiling.{KeepsAll}
@@ -30,8 +29,8 @@ use Rattle.sd_gates.specs.Sharing.{AreShared, wire_function, place_of}
 use Rattle.sd_gates.specs.Holding.{AddsRoots, HoldsMore, HoldsOneMore, IsHeldNode, AreHeldBelow, AreHeldNodes}
 use Rattle.sd_gates.specs.Holding.{DropsEntries}
 use Rattle.sd_gates.specs.declared.sharing.GateNodes.{GateNodes}
-use Rattle.sd_gates.specs.Making.{AreCurrent, IsDescent, StaysOrRises, blanks, current, work_left}
-use Rattle.sd_gates.proofs.Shared.{shared_beside}
+use Rattle.sd_gates.specs.Making.{AreCurrent, IsDescent, StaysOrRises, blanks, current, either_at, work_left}
+use Rattle.sd_gates.proofs.Shared.{none_at, shared_beside}
 use Rattle.sd_gates.proofs.Descending.{current_most}
 
 -- ---- maps of roots
@@ -330,12 +329,19 @@ dropped_blank old new drops i none = go (get_or new i None) refl
         differ : get_or old i None ≡ Some node → ⊥
         differ some = let both : None ≡ Some node = sym none ∙ some in cc
 
+-- nor has a gate without a node one then
+dropped_gate : (old new : List (Option ℕ)) → DropsEntries old new → (g : ℕ) → either_at old g ≡ None
+    → either_at new g ≡ None
+dropped_gate old new drops g none =
+    rw (dropped_blank old new drops (place_of g true) (none_at old g true none)) (dropped_blank old new drops
+    (place_of g false) (none_at old g false none))
+
 -- so the stack of gates without nodes stays one
 pub dropped_descent : (old new : List (Option ℕ)) (top : ℕ) (stack : List ℕ) → DropsEntries old new
     → IsDescent old top stack → IsDescent new top stack
 dropped_descent old new top stack drops descent = record {
   falls = descent.falls;
-  blank = λ i h. dropped_blank old new drops (place_of (get_or stack i 0) true) (descent.blank i h);
+  blank = λ i h. dropped_gate old new drops (get_or stack i 0) (descent.blank i h);
 }
 
 -- ---- how much is left to do

@@ -1,4 +1,5 @@
 mod Descending
 mod Holding
+mod Signs
 -- what crates above cite
 pub mod Shared

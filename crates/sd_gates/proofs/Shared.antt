@@ -3,6 +3,7 @@ use Rattle.std.proofs.Common.{◌≡◌, ◌≢◌, ◌⊎◌, ℕ, zero, suc, �
 use Rattle.std.proofs.Common.{length, get_or, slice_set, replicate, Some, None, refl, sym, ◌∙◌, ap, subst, arith}
 use Rattle.std.proofs.Common.{inl, inr}
 use Rattle.std.specs.Prelude.{Option}
+use Rattle.std.specs.Option.{IsSome}
 use Rattle.std.proofs.lemmas.Bool.{cases_eq}
 use Rattle.std.proofs.lemmas.List.{get_or-set_same, get_or-set_other, length-set}
 use Rattle.sd_manager.specs.Table.{Table}
@@ -12,14 +13,15 @@ use Rattle.sd_laws.specs.Shown.{ShowsCanonical as ShowsBy}
 use Rattle.std.specs.FinMap.{get}
 use Rattle.sd_apply.specs.Answers.{HasAnswer}
 use Rattle.sd_apply.specs.Serving.{last_epoch}
-use Rattle.sd_circuit.specs.Circuits.{OrderedCircuit}
-use Rattle.sd_circuit.specs.declared.wire.Wire.TheVariants.{Gate}
+use Rattle.sd_circuit.specs.Circuits.{OrderedCircuit, IsWireWithin, gate_values, signed_value}
+use Rattle.sd_circuit.specs.declared.wire.Wire.{Wire}
+use Rattle.sd_circuit.specs.declared.wire.Wire.TheVariants.{Constant, Input, Gate}
 use Rattle.sd_sweep.specs.Reached.{IsSwept, HasUnreached}
 use Rattle.sd_compile.specs.Compiling.{MaySweep}
-use Rattle.sd_compile.proofs.Joining.{answer_on}
+use Rattle.sd_compile.proofs.Joining.{answer_on, answer_same}
 use Rattle.sd_gates.specs.declared.sharing.GateNodes.{GateNodes}
 use Rattle.sd_gates.specs.Sharing.{wire_function, place_of, node_at, AreShared, Shares}
-use Rattle.sd_gates.specs.Making.{AreCurrent, blanks, AddsNegations}
+use Rattle.sd_gates.specs.Making.{AreCurrent, blanks, either_at, either_of, with_wire}
 
 -- ---- places
 
@@ -45,22 +47,36 @@ pub put_elsewhere : (nodes : List (Option ℕ)) (g n h : ℕ) (p q : Bool) → p
     → node_at (slice_set nodes (place_of g p) (Some n)) h q ≡ node_at nodes h q
 put_elsewhere nodes g n h p q ne = get_or-set_other nodes (place_of g p) (place_of h q) (Some n) None ne
 
-pub put_other : (nodes : List (Option ℕ)) (g n h : ℕ) → h ≢ g
-    → node_at (slice_set nodes (place_of g true) (Some n)) h true ≡ node_at nodes h true
-put_other nodes g n h ne = put_elsewhere nodes g n h true true (λ e. ne (same_place h g true true e).0)
+-- a gate has a node once one is kept for it or for its negation
+either_some : (o q : Option ℕ) (n : ℕ) → ((o ≡ Some n) ⊎ (q ≡ Some n)) → IsSome (either_of o q)
+either_some (Some m) q n h = refl
+either_some None q n (inl e) = cc
+either_some None q n (inr e) = rw e refl
 
-pub put_negation : (nodes : List (Option ℕ)) (g n h : ℕ)
-    → node_at (slice_set nodes (place_of g false) (Some n)) h true ≡ node_at nodes h true
-put_negation nodes g n h = put_elsewhere nodes g n h false true (λ e. absurd (omega (arith, e)))
+pub put_known : (nodes : List (Option ℕ)) (g n : ℕ) (p : Bool) → place_of g p < length nodes
+    → IsSome (either_at (slice_set nodes (place_of g p) (Some n)) g)
+put_known nodes g n true h = either_some _ _ n (inl (put_there nodes g n true h))
+put_known nodes g n false h = either_some _ _ n (inr (put_there nodes g n false h))
+
+-- and other gates have what they had
+pub put_other : (nodes : List (Option ℕ)) (g n h : ℕ) (p : Bool) → h ≢ g
+    → either_at (slice_set nodes (place_of g p) (Some n)) h ≡ either_at nodes h
+put_other nodes g n h p ne =
+    rw (
+      put_elsewhere nodes g n h p true (λ e. ne (same_place h g true p e).0),
+      put_elsewhere nodes g n h p false (λ e. ne (same_place h g false p e).0),
+    ) refl
+
+-- where neither has a node, none stands at either place
+either_none : (o q : Option ℕ) → either_of o q ≡ None → (o ≡ None) × (q ≡ None)
+either_none (Some m) q e = absurd cc
+either_none None q e = (refl, e)
+
+pub none_at : (nodes : List (Option ℕ)) (g : ℕ) (p : Bool) → either_at nodes g ≡ None → node_at nodes g p ≡ None
+none_at nodes g true e = (either_none (node_at nodes g true) (node_at nodes g false) e).0
+none_at nodes g false e = (either_none (node_at nodes g true) (node_at nodes g false) e).1
 
 -- ---- blanks
-
-blanks_most : (nodes : List (Option ℕ)) (i n : ℕ) → blanks (slice_set nodes i (Some n)) ≤ blanks nodes
-blanks_most [] i n = omega arith
-blanks_most (None ∷ nodes) zero n = omega arith
-blanks_most (Some m ∷ nodes) zero n = omega arith
-blanks_most (None ∷ nodes) (suc i) n = let h = blanks_most nodes i n in omega (arith, h)
-blanks_most (Some m ∷ nodes) (suc i) n = blanks_most nodes i n
 
 blanks_less : (nodes : List (Option ℕ)) (i n : ℕ) → i < length nodes → get_or nodes i None ≡ None
     → blanks (slice_set nodes i (Some n)) < blanks nodes
@@ -72,20 +88,9 @@ blanks_less (None ∷ nodes) (suc i) n h e =
 blanks_less (Some m ∷ nodes) (suc i) n h e = blanks_less nodes i n (omega (arith, h)) e
 
 -- a gate that had no node has one, so there are fewer blanks
-pub gate_fewer : (nodes : List (Option ℕ)) (g n : ℕ) → place_of g true < length nodes → node_at nodes g true ≡ None
-    → blanks (slice_set nodes (place_of g true) (Some n)) < blanks nodes
-gate_fewer nodes g n h e = blanks_less nodes (place_of g true) n h e
-
--- a negation is added
-pub negation_added : (nodes : List (Option ℕ)) (g n : ℕ)
-    → AddsNegations nodes (slice_set nodes (place_of g false) (Some n))
-negation_added nodes g n = record {
-  same = λ h. put_negation nodes g n h;
-  fewer = blanks_most nodes (place_of g false) n;
-}
-
-pub none_added : (nodes : List (Option ℕ)) → AddsNegations nodes nodes
-none_added nodes = record { same = λ h. refl; fewer = omega arith }
+pub gate_fewer : (nodes : List (Option ℕ)) (g n : ℕ) (p : Bool) → place_of g p < length nodes
+    → either_at nodes g ≡ None → blanks (slice_set nodes (place_of g p) (Some n)) < blanks nodes
+gate_fewer nodes g n p h e = blanks_less nodes (place_of g p) n h (none_at nodes g p e)
 
 -- ---- what is shared
 
@@ -124,6 +129,15 @@ ready_on c gates old new kept ready = record {
   shared = shared_on c gates.nodes.items old new kept ready.shared;
 }
 
+-- and with the same nodes
+ready_same : (c : OrderedCircuit) (before after : GateNodes) (t : Table) → AreCurrent c before t
+    → after.nodes.items ≡ before.nodes.items → after.epoch ≡ before.epoch → AreCurrent c after t
+ready_same c before after t ready nodes epoch = record {
+  epoch = epoch ∙ ready.epoch;
+  size = ap length nodes ∙ ready.size;
+  shared = subst (λ l. AreShared c l t) (sym nodes) ready.shared;
+}
+
 -- and with one more node
 pub ready_put : (c : OrderedCircuit) (before after : GateNodes) (t : Table) (g n : ℕ) (p : Bool) → AreCurrent c before t
     → g < length c.order → HasAnswer t (wire_function c (Gate g p)) n
@@ -137,6 +151,33 @@ ready_put c before after t g n p ready h answer nodes epoch =
       shared = subst (λ l. AreShared c l t) (sym nodes)
           (shared_put c before.nodes.items t g n p ready.shared inside answer);
     }
+
+-- and with that of a wire
+pub ready_kept : (c : OrderedCircuit) (before after : GateNodes) (t : Table) (wire : Wire) (n : ℕ)
+    → AreCurrent c before t → IsWireWithin c (length c.order) wire → HasAnswer t (wire_function c wire) n
+    → after.nodes.items ≡ with_wire before.nodes.items wire n → after.epoch ≡ before.epoch → AreCurrent c after t
+ready_kept c before after t (Constant value) n ready h answer nodes epoch =
+    ready_same c before after t ready nodes epoch
+ready_kept c before after t (Input x p) n ready h answer nodes epoch = ready_same c before after t ready nodes epoch
+ready_kept c before after t (Gate g p) n ready h answer nodes epoch =
+    ready_put c before after t g n p ready h answer nodes epoch
+
+-- ---- signs
+
+-- a sign before a sign
+signed_twice : (s p v : Bool) → signed_value (signed_value s p) v ≡ signed_value s (signed_value p v)
+signed_twice true p v = refl
+signed_twice false true v = refl
+signed_twice false false true = refl
+signed_twice false false false = refl
+
+-- what stands for a gate or for its negation stands for each of both by a sign
+pub signed_shared : (c : OrderedCircuit) (nodes : List (Option ℕ)) (t : Table) → AreShared c nodes t → (g node : ℕ)
+    (s p : Bool) → node_at nodes g (signed_value s p) ≡ Some node
+    → HasAnswer t (λ a. signed_value s (wire_function c (Gate g p) a)) node
+signed_shared c nodes t shared g node s p e =
+    answer_same t (wire_function c (Gate g (signed_value s p))) (λ a. signed_value s (wire_function c (Gate g p) a))
+    node (λ a. signed_twice s p (get_or (gate_values c a) g false)) (shared g node (signed_value s p) e)
 
 -- what is ready is shared
 pub ready_shares : (c : OrderedCircuit) (gates : GateNodes) (t : Table) → AreCurrent c gates t → Shares c gates t

@@ -1,13 +1,14 @@
 //! An output as a node.
 
-ghost use Rattle.std.specs.Prelude.{◌≡◌, ◌≢◌, ℕ, ◌*◌, ◌^◌, ◌<◌, ◌≤◌, List, Bool, true, false, length, Some, None};
-ghost use Rattle.std.specs.Prelude.{IfOk, IfErr, OnOk, IfSome, IfNone, ◌&&◌, slice_index_or};
+ghost use Rattle.std.specs.Prelude.{◌≡◌, ◌≢◌, ℕ, ◌*◌, ◌^◌, ◌<◌, ◌≤◌, List, Bool, false, length, Some, None};
+ghost use Rattle.std.specs.Prelude.{IfOk, IfErr, OnOk, IfSome, IfNone, ◌&&◌, ◌||◌, slice_index_or};
 ghost use Rattle.std.specs.Option.{IsSome};
 ghost use Rattle.std.specs.FinMap.{len};
 ghost use Rattle.sd_model.specs.Tree.{leaves};
 ghost use Rattle.sd_model.specs.Circuit.{circuit_output};
 ghost use Rattle.sd_vtree.specs.Numbered.{plain_tree};
 ghost use Rattle.sd_manager.specs.Literals.{literal_of};
+ghost use Rattle.sd_manager.specs.Shown.{IsNodeOf};
 ghost use Rattle.sd_manager.specs.Valid.{IsTable};
 ghost use Rattle.sd_manager.specs.Making.{Extends, KeepsRule};
 ghost use Rattle.sd_manager.specs.Marking.{AreUnmarked};
@@ -15,16 +16,15 @@ ghost use Rattle.sd_apply.specs.Answers.{HasAnswer};
 ghost use Rattle.sd_apply.specs.Serving.{Serves};
 ghost use Rattle.sd_sweep.specs.Falling.{NeverFalls};
 ghost use Rattle.sd_compile.specs.Compiling.{KeepsAll};
-ghost use Rattle.sd_circuit.specs.Circuits.{OrderedCircuit, IsWireWithin, gate_values};
-ghost use Rattle.sd_circuit.specs.declared.wire.Wire.TheVariants.{Gate};
-ghost use Rattle.sd_gates.specs.Sharing.{Shares, wire_function, node_at};
-ghost use Rattle.sd_gates.specs.Making.{AreCurrent, IsKnown, AddsNegations, IsDescent, current, work_left, blanks};
-ghost use Rattle.sd_gates.specs.Making.{StaysOrRises};
+ghost use Rattle.sd_circuit.specs.Circuits.{OrderedCircuit, IsWireWithin, gate_values, signed_value};
+ghost use Rattle.sd_gates.specs.Sharing.{Shares, wire_function};
+ghost use Rattle.sd_gates.specs.Making.{AreCurrent, IsKnown, IsDescent, current, work_left, blanks, either_at};
+ghost use Rattle.sd_gates.specs.Making.{StaysOrRises, HasSignedAnswer};
 ghost use Rattle.sd_gates.specs.Holding.{DropsEntries};
 
-use crate::sharing::GateNodes;
-use crate::sweeping::{Sweeps, sweep_between};
-use sd_apply::{and, negate};
+use crate::sharing::{GateNodes, SignedNode};
+use crate::sweeping::{Sweeps, sweep_inside_output};
+use sd_apply::{and, difference, negate, or};
 use sd_cache::Cache;
 use sd_circuit::{Circuit, Wire};
 use sd_compile::Pace;
@@ -138,7 +138,7 @@ fn make_gates(
     requires ready { AreCurrent circuit.now gates.old m.old }
     requires room { len m.old.roots < 2 ^ 31 }
     requires top { top < length circuit.now.order }
-    ensures ok { OnOk result (IsSome (node_at gates.new.nodes.items top true)) }
+    ensures ok { OnOk result (IsSome (either_at gates.new.nodes.items top)) }
     ensures kept { KeepsAll m.old m.new }
     ensures never_falls { NeverFalls m.old m.new }
     ensures ready { AreCurrent circuit.now gates.new m.new }
@@ -191,7 +191,7 @@ fn sweep_if_full(
     if used <= most {
         return Ok(());
     }
-    sweep_between(alloc, m, c, circuit, gates, sweeps)?;
+    sweep_inside_output(alloc, m, c, circuit, gates, sweeps)?;
     // a sweep that left more than half was of little use
     sweeps.alone = m.used() > used / 2;
     sweeps.pace.wait_for(most + 1);
@@ -212,7 +212,7 @@ fn step(
     requires serves { Serves c.old m.old }
     requires ready { AreCurrent circuit.now gates.old m.old }
     requires top { top < length circuit.now.order }
-    requires unknown { node_at gates.old.nodes.items top true ≡ None }
+    requires unknown { either_at gates.old.nodes.items top ≡ None }
     requires descent { IsDescent gates.old.nodes.items top stack.old.items }
     ensures descent { OnOk result (IsDescent gates.new.nodes.items top stack.new.items) }
     ensures less { OnOk result (work_left gates.new.nodes.items top stack.new.items
@@ -253,7 +253,7 @@ fn current_of(stack: &[u32], top: u32) -> u32
 fn unknown_side(gates: &GateNodes, sides: (Wire, Wire)) -> Option<u32>
     requires within { (c : OrderedCircuit) × (count : ℕ) × IsWireWithin c count sides.0 × IsWireWithin c count sides.1
         × (2 * count ≤ length gates.now.nodes.items) }
-    ensures some { IfSome result (λ gate. node_at gates.now.nodes.items gate true ≡ None) }
+    ensures some { IfSome result (λ gate. either_at gates.now.nodes.items gate ≡ None) }
     ensures before { (c : OrderedCircuit) (count : ℕ) → IsWireWithin c count sides.0
         → IsWireWithin c count sides.1 → IfSome result (λ gate. gate < count) }
     ensures none { IfNone result (IsKnown gates.now.nodes.items sides.0
@@ -269,7 +269,7 @@ fn unknown_side(gates: &GateNodes, sides: (Wire, Wire)) -> Option<u32>
 fn unknown_gate(gates: &GateNodes, wire: Wire) -> Option<u32>
     requires within { (c : OrderedCircuit) × (count : ℕ) × IsWireWithin c count wire
         × (2 * count ≤ length gates.now.nodes.items) }
-    ensures some { IfSome result (λ gate. node_at gates.now.nodes.items gate true ≡ None) }
+    ensures some { IfSome result (λ gate. either_at gates.now.nodes.items gate ≡ None) }
     ensures before { (c : OrderedCircuit) (count : ℕ) → IsWireWithin c count wire
         → IfSome result (λ gate. gate < count) }
     ensures none { IfNone result (IsKnown gates.now.nodes.items wire) }
@@ -287,7 +287,7 @@ fn unknown_gate(gates: &GateNodes, wire: Wire) -> Option<u32>
     }
 }
 
-// Makes a gate whose sides have nodes.
+// Makes a gate whose sides have nodes. Where both are negative it is its negation that has one.
 fn make_gate(
     alloc: Global,
     m: &mut Manager,
@@ -307,10 +307,10 @@ fn make_gate(
     requires second_known { IsKnown gates.old.nodes.items sides.1 }
     requires value { (a : List Bool) → slice_index_or (gate_values circuit.now a) gate false
         ≡ (wire_function circuit.now sides.0 a && wire_function circuit.now sides.1 a) }
-    requires unknown { node_at gates.old.nodes.items gate true ≡ None }
-    ensures known { OnOk result (IsSome (node_at gates.new.nodes.items gate true)) }
+    requires unknown { either_at gates.old.nodes.items gate ≡ None }
+    ensures known { OnOk result (IsSome (either_at gates.new.nodes.items gate)) }
     ensures others { OnOk result ((other : ℕ) → other ≢ gate
-        → node_at gates.new.nodes.items other true ≡ node_at gates.old.nodes.items other true) }
+        → either_at gates.new.nodes.items other ≡ either_at gates.old.nodes.items other) }
     ensures fewer { OnOk result (blanks gates.new.nodes.items < blanks gates.old.nodes.items) }
     ensures kept { Extends m.old m.new }
     ensures ready { AreCurrent circuit.now gates.new m.new }
@@ -318,14 +318,66 @@ fn make_gate(
     ensures rule { IfErr result (λ e. KeepsRule m.new e) }
     ensures table { IsTable m.new }
 {
-    let first = wire_node(alloc, m, c, circuit, gates, sides.0)?;
-    let second = wire_node(alloc, m, c, circuit, gates, sides.1)?;
-    let node = and(alloc, m, c, first, second)?;
-    gates.put(gate, true, node);
+    let first = signed_node(m, circuit, gates, sides.0);
+    let second = signed_node(m, circuit, gates, sides.1);
+    let node = conjunction(alloc, m, c, first, second)?;
+    gates.put(gate, first.positive || second.positive, node);
     Ok(())
 }
 
-// The node of a wire: of a constant, an input or a gate that has one.
+// The node of the conjunction of two signed nodes, or of its negation where both are negative. No node is negated for
+// its sign.
+fn conjunction(
+    alloc: Global,
+    m: &mut Manager,
+    c: &mut Cache,
+    first: SignedNode,
+    second: SignedNode,
+) -> Result<NodeId, TakeError>
+    requires first { IsNodeOf m.old first.node }
+    requires second { IsNodeOf m.old second.node }
+    requires serves { Serves c.old m.old }
+    ensures ok { IfOk result (λ r. (f g : List Bool → Bool) → HasSignedAnswer m.old f first
+        → HasSignedAnswer m.old g second
+        → HasAnswer m.new (λ a. signed_value (first.positive || second.positive) (f a && g a)) r) }
+    ensures kept { Extends m.old m.new }
+    ensures serves { Serves c.new m.new }
+    ensures rule { IfErr result (λ e. KeepsRule m.new e) }
+    ensures table { IsTable m.new }
+{
+    match (first.positive, second.positive) {
+        (true, true) => and(alloc, m, c, first.node, second.node),
+        (true, false) => difference(alloc, m, c, first.node, second.node),
+        (false, true) => difference(alloc, m, c, second.node, first.node),
+        (false, false) => or(alloc, m, c, first.node, second.node),
+    }
+}
+
+// The node of a wire or of its negation: of a constant, an input or a gate that has one.
+fn signed_node(m: &Manager, circuit: &Circuit, gates: &GateNodes, wire: Wire) -> SignedNode
+    requires variables { leaves (plain_tree m.now.vtree) ≡ length circuit.now.text.inputs }
+    requires ready { AreCurrent circuit.now gates.now m.now }
+    requires within { IsWireWithin circuit.now (length circuit.now.order) wire }
+    requires known { IsKnown gates.now.nodes.items wire }
+    ensures { HasSignedAnswer m.now (wire_function circuit.now wire) result }
+{
+    // there are at most 1,024 inputs
+    let _ = circuit.inputs();
+    match wire {
+        Wire::Constant(value) => SignedNode {
+            node: m.constant(value),
+            positive: true,
+        },
+        Wire::Input { variable, positive } => SignedNode {
+            node: m.literal(literal_number(variable, positive)),
+            positive: true,
+        },
+        Wire::Gate { index, positive } => gates.signed(index, positive),
+    }
+}
+
+// The node of a wire: of a constant, an input or a gate that has one. Where only its negation has one, it is made and
+// kept.
 fn wire_node(
     alloc: Global,
     m: &mut Manager,
@@ -340,27 +392,21 @@ fn wire_node(
     requires within { IsWireWithin circuit.now (length circuit.now.order) wire }
     requires known { IsKnown gates.old.nodes.items wire }
     ensures ok { IfOk result (λ node. HasAnswer m.new (wire_function circuit.now wire) node) }
-    ensures gates { AddsNegations gates.old.nodes.items gates.new.nodes.items }
     ensures kept { Extends m.old m.new }
     ensures ready { AreCurrent circuit.now gates.new m.new }
     ensures serves { Serves c.new m.new }
     ensures rule { IfErr result (λ e. KeepsRule m.new e) }
     ensures table { IsTable m.new }
 {
-    // there are at most 1,024 inputs
-    let _ = circuit.inputs();
+    // its contract tells that the table is valid
     let _ = m.vtree();
-    match wire {
-        Wire::Constant(value) => Ok(m.constant(value)),
-        Wire::Input { variable, positive } => Ok(m.literal(literal_number(variable, positive))),
-        Wire::Gate { index, positive } => {
-            if positive {
-                Ok(gates.node(index, true).unwrap())
-            } else {
-                negated(alloc, m, c, circuit, gates, index)
-            }
-        }
+    let found = signed_node(m, circuit, gates, wire);
+    if found.positive {
+        return Ok(found.node);
     }
+    let node = negate(alloc, m, c, found.node)?;
+    gates.keep(wire, node);
+    Ok(node)
 }
 
 // The literal of a variable, as DIMACS has it.
@@ -374,35 +420,4 @@ fn literal_number(variable: u32, positive: bool) -> i32
     } else {
         -(variable as i32)
     }
-}
-
-// The node of a gate's negation, which is kept beside that of the gate.
-fn negated(
-    alloc: Global,
-    m: &mut Manager,
-    c: &mut Cache,
-    circuit: &Circuit,
-    gates: &mut GateNodes,
-    gate: u32,
-) -> Result<NodeId, TakeError>
-    requires serves { Serves c.old m.old }
-    requires ready { AreCurrent circuit.now gates.old m.old }
-    requires gate { gate < length circuit.now.order }
-    requires known { IsSome (node_at gates.old.nodes.items gate true) }
-    ensures ok { IfOk result (λ node. HasAnswer m.new (wire_function circuit.now (Gate gate false)) node) }
-    ensures gates { AddsNegations gates.old.nodes.items gates.new.nodes.items }
-    ensures kept { Extends m.old m.new }
-    ensures ready { AreCurrent circuit.now gates.new m.new }
-    ensures serves { Serves c.new m.new }
-    ensures rule { IfErr result (λ e. KeepsRule m.new e) }
-    ensures table { IsTable m.new }
-{
-    let _ = m.vtree();
-    if let Some(node) = gates.node(gate, false) {
-        return Ok(node);
-    }
-    let positive = gates.node(gate, true).unwrap();
-    let node = negate(alloc, m, c, positive)?;
-    gates.put(gate, false, node);
-    Ok(node)
 }

@@ -1,15 +1,15 @@
 //! The nodes of gates, by which outputs share them.
 
-ghost use Rattle.std.specs.Prelude.{◌≡◌, ℕ, ◌*◌, ◌<◌, ◌≤◌, length, Some, None, OnOk, OnErr, IsTrue, slice_set, true};
+ghost use Rattle.std.specs.Prelude.{◌≡◌, ℕ, ◌*◌, ◌<◌, ◌≤◌, length, Some, None, OnOk, OnErr, IsTrue, slice_set, false};
 ghost use Rattle.std.specs.Option.{IsSome};
 ghost use Rattle.sd_manager.specs.Table.{Table};
 ghost use Rattle.sd_apply.specs.Serving.{last_epoch};
-ghost use Rattle.sd_circuit.specs.Circuits.{OrderedCircuit};
+ghost use Rattle.sd_circuit.specs.Circuits.{OrderedCircuit, IsWireWithin, signed_value};
 ghost use Rattle.sd_gates.specs.Sharing.{Shares, node_at, place_of};
-ghost use Rattle.sd_gates.specs.Making.{AreCurrent};
+ghost use Rattle.sd_gates.specs.Making.{AreCurrent, either_at, with_wire};
 ghost use Rattle.sd_gates.specs.Holding.{DropsEntries};
 
-use sd_circuit::Circuit;
+use sd_circuit::{Circuit, Wire};
 use sd_manager::{Manager, NodeId};
 use std::alloc::{AllocError, Global};
 
@@ -18,8 +18,15 @@ use std::alloc::{AllocError, Global};
 pub struct GateNodes {
     // the epoch of the nodes
     pub(crate) epoch: Option<u64>,
-    // the node of each gate and, behind it, that of its negation, where they were made
+    // the node of each gate and, behind it, that of its negation, where they were made: one of them is enough
     pub(crate) nodes: Vec<Option<NodeId>>,
+}
+
+/// A node that stands for what it shows, or for its negation where it is negative.
+#[derive(Clone, Copy, Drop)]
+pub(crate) struct SignedNode {
+    pub(crate) node: NodeId,
+    pub(crate) positive: bool,
 }
 
 impl GateNodes {
@@ -83,6 +90,38 @@ impl GateNodes {
         self.nodes[place(gate, positive)]
     }
 
+    /// The node of a gate or of its negation, with the sign that makes it the one that is asked for: a positive one
+    /// where there are both.
+    pub(crate) fn signed(&self, gate: u32, positive: bool) -> SignedNode
+        requires inside { place_of gate false < length self.now.nodes.items }
+        requires known { IsSome (either_at self.now.nodes.items gate) }
+        ensures { node_at self.now.nodes.items gate (signed_value result.positive positive)
+            ≡ Some result.node }
+    {
+        if let Some(node) = self.node(gate, positive) {
+            return SignedNode {
+                node,
+                positive: true,
+            };
+        }
+        SignedNode {
+            node: self.node(gate, !positive).unwrap(),
+            positive: false,
+        }
+    }
+
+    /// Keeps the node of a wire, where that is a gate.
+    pub(crate) fn keep(&mut self, wire: Wire, node: NodeId)
+        requires within { (c : OrderedCircuit) × (count : ℕ) × IsWireWithin c count wire
+            × (2 * count ≤ length self.old.nodes.items) }
+        ensures nodes { self.new.nodes.items ≡ with_wire self.old.nodes.items wire node }
+        ensures epoch { self.new.epoch ≡ self.old.epoch }
+    {
+        if let Wire::Gate { index, positive } = wire {
+            self.put(index, positive, node);
+        }
+    }
+
     /// Keeps the node of a gate or of its negation.
     pub(crate) fn put(&mut self, gate: u32, positive: bool, node: NodeId)
         requires { place_of gate positive < length self.old.nodes.items }
@@ -111,13 +150,13 @@ impl GateNodes {
         self.epoch = Some(epoch);
     }
 
-    /// Whether a gate has a node.
+    /// Whether a gate or its negation has a node.
     pub(crate) fn is_known(&self, gate: u32) -> bool
-        requires { place_of gate true < length self.now.nodes.items }
-        ensures known { IsTrue result → IsSome (node_at self.now.nodes.items gate true) }
-        ensures unknown { ¬ (IsTrue result) → node_at self.now.nodes.items gate true ≡ None }
+        requires { place_of gate false < length self.now.nodes.items }
+        ensures known { IsTrue result → IsSome (either_at self.now.nodes.items gate) }
+        ensures unknown { ¬ (IsTrue result) → either_at self.now.nodes.items gate ≡ None }
     {
-        self.node(gate, true).is_some()
+        self.node(gate, true).is_some() || self.node(gate, false).is_some()
     }
 }
 

@@ -37,7 +37,7 @@ pub(crate) struct Sweeps {
 /// Takes nodes away that no root and no loose run needs, but not those of gates that the output in hand, and later ones
 /// too unless it is alone, are made of next. Which nodes are taken away, and what the pace allows then, is chosen for
 /// speed and stands in no clause. The only error: out of memory, and then nothing is swept.
-pub(crate) fn sweep_between(
+pub(crate) fn sweep_inside_output(
     alloc: Global,
     m: &mut Manager,
     c: &mut Cache,
@@ -70,7 +70,7 @@ pub(crate) fn sweep_between(
     sweep_others(alloc, m, c, circuit, gates, &mut sweeps.pace)
 }
 
-// Takes away what no root, no loose run and none of the nodes of gates needs.
+// Sweeps while each node of a gate is held by a root of its own, so that these nodes stay what they are.
 fn sweep_others(
     alloc: Global,
     m: &mut Manager,
