@@ -1,6 +1,7 @@
 pub mod Joining
 pub mod Grouping
 pub mod OnePass
+pub mod Implying
 pub mod Parities
 pub mod Holding
 pub mod Kept

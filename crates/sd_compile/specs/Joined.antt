@@ -1,5 +1,5 @@
 -- Truth values joined by a connective, and the connectives of a formula in groups.
-use Rattle.std.specs.Prelude.{ℕ, ℤ, Bool, true, false, not, if◌then◌else◌, List, [], ◌∷◌}
+use Rattle.std.specs.Prelude.{◌≡◌, ℕ, ℤ, Bool, true, false, not, if◌then◌else◌, List, [], ◌∷◌}
 use Rattle.std.specs.List.{AllByRecursion}
 use Rattle.sd_model.specs.declared.trees.Operation.{Operation}
 use Rattle.sd_model.specs.declared.trees.Operation.TheVariants.{And, Or, Xor}
@@ -12,6 +12,7 @@ use Rattle.sd_formula.specs.declared.formula.Kind.TheVariants.{Cnf, Dnf}
 use Rattle.sd_manager.specs.Table.{Table}
 use Rattle.sd_manager.specs.Shown.{ShowsCanonical}
 use Rattle.sd_apply.specs.Answers.{HasAnswer}
+use Rattle.sd_apply.specs.Group.{group_value}
 
 -- the value of none
 abbrev pub neutral : Operation → Bool
@@ -57,3 +58,8 @@ pub record JoinsLiterals (old new : Table) (kind : Kind) (a : ℕ) (literals : L
 pub record HasBothAnswers (t : Table) (f : List Bool → Bool) (a b : ℕ) : Type 0 where
   pub one : HasAnswer t f a
   pub other : HasAnswer t (λ assignment. not (f assignment)) b
+
+-- a node is false wherever all literals of a clause are
+abbrev pub Implies : Table → ℕ → List (ℕ × ℤ) → Type 0
+Implies t c clause = (d : Diagram) → ShowsCanonical t c d → (assignment : List Bool) →
+    group_value And clause assignment ≡ false → meaning d assignment ≡ false

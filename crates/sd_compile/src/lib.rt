@@ -12,6 +12,7 @@ mod compiling;
 mod connectives;
 mod error;
 mod groups;
+mod implied;
 pub mod laws;
 mod limited;
 mod one_pass;

@@ -1,6 +1,6 @@
 // A node joined with a group in one pass along it: where the left children of the vtree are leaves the group has no
 // node of its own.
-ghost use Rattle.std.specs.Prelude.{◌≡◌, ◌<◌, length, IfOk, IfErr, IfSome};
+ghost use Rattle.std.specs.Prelude.{◌≡◌, ◌<◌, length, IfOk, IfErr, IfSome, IsTrue};
 ghost use Rattle.sd_model.specs.Tree.{leaves};
 ghost use Rattle.sd_vtree.specs.Numbered.{plain_tree, numbers};
 ghost use Rattle.sd_formula.specs.Formulas.{AreLiterals};
@@ -8,9 +8,11 @@ ghost use Rattle.sd_manager.specs.Valid.{IsTable};
 ghost use Rattle.sd_manager.specs.Shown.{IsNodeOf};
 ghost use Rattle.sd_manager.specs.Making.{Extends, KeepsRule};
 ghost use Rattle.sd_apply.specs.Serving.{Serves};
-ghost use Rattle.sd_compile.specs.Joined.{JoinsLiterals};
+ghost use Rattle.sd_apply.specs.Group.{JoinsGroup};
+ghost use Rattle.sd_compile.specs.Joined.{outer, JoinsLiterals};
 
 use crate::connectives::between_groups;
+use crate::implied::implies;
 use sd_apply::{by_leaf, join_group};
 use sd_cache::Cache;
 use sd_formula::Kind;
@@ -40,7 +42,26 @@ pub(crate) fn join_literals(
     // its contract tells that the table is valid
     let _ = m.vtree();
     let placed = by_leaf(alloc, m, literals)?;
+    if stays(m, kind, node, &placed) {
+        return Ok(node);
+    }
     join_group(alloc, m, c, between_groups(kind), node, &placed)
+}
+
+// Whether it is found that a clause leaves a node as it is. Where the left child of the vtree's root is a leaf, this is
+// not asked: there one pass costs about as much.
+fn stays(m: &Manager, kind: Kind, node: NodeId, placed: &[(u32, i32)]) -> bool
+    requires node { IsNodeOf m.now node }
+    ensures { IsTrue result → JoinsGroup m.now m.now (outer kind) node placed.now node }
+{
+    let vtree = m.vtree();
+    if right_of_leaf(vtree, vtree.root()).is_some() {
+        return false;
+    }
+    match kind {
+        Kind::Cnf => implies(m, node, placed),
+        Kind::Dnf => false,
+    }
 }
 
 // So many literals are joined in one pass on every vtree.

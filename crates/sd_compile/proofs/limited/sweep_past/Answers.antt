@@ -1,6 +1,5 @@
-use Rattle.std.proofs.Common.{inl, inr, refl, arith}
+use Rattle.std.proofs.Common.{inr}
 use Rattle.sd_manager.proofs.Extending.{extends_self}
-use Rattle.sd_sweep.proofs.NeverFalling.{never_same}
 use Rattle.sd_compile.proofs.Kept.{all_may, all_extended}
 use Rattle.sd_compile.proofs.limited.sweep_past.Goals as goal
 
