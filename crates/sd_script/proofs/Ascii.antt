@@ -6,7 +6,7 @@ use Rattle.std.proofs.lemmas.Str.Ascii.{IsAscii-nil, IsAscii-cons}
 use Rattle.std.specs.List.{list_all}
 use Rattle.std.specs.Str.{IsAscii, IsUtf8}
 use Rattle.std.specs.Prelude.{length, nat_le}
-use Rattle.sd_script.specs.Phrases.{Word, is_name, is_printable, starts_name, continues_name}
+use Rattle.sd_script.specs.Forms.{Word, is_name, is_printable, starts_name, continues_name}
 
 -- of two tests that both pass the first passes
 pub and_left : (a b : Bool) → (a && b) ≡ true → a ≡ true

@@ -1,37 +1,57 @@
 -- A script has no more commands than its text has lines, and those are at most 100,000.
-use Rattle.std.proofs.Common.{◌≡◌, ℕ, ◌+◌, ◌≤◌, Bool, true, false, List, [], ◌∷◌, length, subst, sym, ap}
+use Rattle.std.proofs.Common.{◌≡◌, ℕ, ◌+◌, ◌≤◌, Bool, true, false, List, [], ◌∷◌, length, refl, subst, sym, ap}
 use Rattle.std.proofs.Common.{◌∙◌, arith}
 use Rattle.std.proofs.Common.{if◌then◌else◌, length-append, Ok}
 use Rattle.std.proofs.lemmas.Bool.Decides.{nat_tests}
-use Rattle.std.specs.Prelude.{nat_lt, ok_or}
+use Rattle.std.specs.Prelude.{nat_lt, ok_or, Option, Some, None, option_map}
+use Rattle.sd_base.specs.Reading.{◌>>=◌}
 use Rattle.sd_base.specs.Words.{lines_of, words_of}
 use Rattle.sd_base.specs.Lines.{TextLine, numbered_lines_from, is_content}
 use Rattle.sd_script.specs.declared.command.Command.{Command}
 use Rattle.sd_script.specs.declared.fault.ScriptFault.TheVariants as faults
 use Rattle.sd_script.specs.Faults.{script_fault_text}
-use Rattle.sd_script.specs.Phrases.{phrase_of, action_of, seen, numbered_phrase, with_phrase, with_command}
-use Rattle.sd_script.specs.Scripts.{Script, empty, checked, with_line}
+use Rattle.sd_script.specs.declared.command.Action.{Action}
+use Rattle.sd_script.specs.Forms.{Word}
+use Rattle.sd_script.specs.Scripts.{Script, empty, checked, with_line, with_action, with_command, command_of}
 use Rattle.sd_script.specs.Scripts.{after_line, after_lines, script_of}
 use Rattle.sd_script.proofs.Allowed.{passed, gave, went_on}
-use Rattle.sd_script.proofs.WithLine.{with_line_is}
+use Rattle.sd_script.specs.Table.{Seen, line_command, with_seen}
 
 -- a test of an upper bound that passed
 within : (n : ℕ) → nat_lt 100000 n ≡ false → n ≤ 100000
 within n h = grind (arith, nat_tests)
 
+-- the commands of the script beside a command
+abbrev commands_in : Option (Action × Script) → List Command
+commands_in None = []
+commands_in (Some (action, t)) = t.commands
+
+-- the command of a line changes no other command
+commands_stay : (v : ℕ) (s t : Script) (words : List Word) (action : Action)
+    → command_of v s words ≡ Some (action, t) → t.commands ≡ s.commands
+unfolding command_of
+commands_stay v s t words action e = by (line_command v (record { names = s.names; files = s.files }) words) e
+  where
+    by : (o : Option (Action × Seen)) → option_map (with_seen s) o ≡ Some (action, t) → t.commands ≡ s.commands
+    by None f = cc
+    by (Some (a, seen)) f = sym (ap commands_in f)
+
 -- a command line has one command
 one_more : (v o : ℕ) (s t : Script) (line : TextLine) → with_line v o s line ≡ Ok t
     → length t.commands ≡ length s.commands + 1
-one_more v o s t line e =
-    let found = gave (ok_or (phrase_of v line.words) (script_fault_text (faults.BadLine line.number)))
-    (λ phrase. with_phrase v o (seen s phrase) line.number (numbered_phrase (seen s phrase) phrase)) t
-    (sym (with_line_is v o s line) ∙ e) in
-    let phrase = found.0 in
-    let q = numbered_phrase (seen s phrase) phrase in
-    let c : Command = record { line = line.number; action = action_of q } in
-    let tested = went_on (checked v o s.commands line.number (action_of q)) _ t found.2 in
-    let same : record (seen s phrase) { commands = with_command s.commands line.number q } ≡ t = cc (tested.2) in
-    ap (λ (u : Script). length u.commands) (sym same) ∙ length-append s.commands (c ∷ [])
+one_more v o s t line e = by (command_of v s line.words) refl e
+  where
+    by : (found : Option (Action × Script)) → command_of v s line.words ≡ found
+        → (ok_or found (script_fault_text (faults.BadLine line.number))
+        >>= (λ (action, seen). with_action v o line.number action seen)) ≡ Ok t
+        → length t.commands ≡ length s.commands + 1
+    by None is f = cc
+    by (Some (action, seen)) is f =
+        let tested = went_on (checked v o seen.commands line.number action) _ t f in
+        let c : Command = record { line = line.number; action = action } in
+        let same : with_command line.number action seen ≡ t = cc (tested.2) in
+        ap (λ (u : Script). length u.commands) (sym same) ∙ length-append seen.commands (c ∷ [])
+        ∙ ap (λ (l : List Command). length l + 1) (commands_stay v s seen line.words action is)
 
 -- a line has one at most
 one_at_most : (v o : ℕ) (s t : Script) (line : TextLine) → after_line v o s line ≡ Ok t

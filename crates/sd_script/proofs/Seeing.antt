@@ -1,14 +1,12 @@
--- The numbers of the words of a command, and how many words there are.
+-- The numbers of words, and how many words there are.
 use Rattle.std.proofs.Common.{◌≡◌, ℕ, ◌+◌, ◌<◌, ◌≤◌, Bool, true, false, List, [], ◌∷◌, ◌++◌, length}
 use Rattle.std.proofs.Common.{refl, ap, sym, ◌∙◌, map, take, get_or, arith, if◌then◌else◌, length-append}
 use Rattle.std.proofs.lemmas.List.{map-append}
 use Rattle.std.proofs.lemmas.Grind.{take_at_read}
 use Rattle.std.specs.Prelude.{bytes_eq}
 use Rattle.std.specs.List.{list_any, position_or_len, AllByRecursion}
-use Rattle.sd_script.specs.Phrases as phrases
-use Rattle.sd_script.specs.Phrases.{Phrase, Word, names_in, files_in, Load, Write, Vtree, seen, numbered_phrase}
-use Rattle.sd_script.specs.Scripts.{Script, see, see_all, number_of_word}
-use Rattle.sd_script.specs.Steps.{HasNamesIn, HasRoom}
+use Rattle.sd_script.specs.Forms.{Word}
+use Rattle.sd_script.specs.Scripts.{see, see_all, number_of_word}
 use Rattle.sd_script.proofs.TableLaws.{has_see, has_see_other, number_see_other}
 
 -- an index that is there is within
@@ -29,27 +27,8 @@ unfolding number_of_word
 within words w h = index_within (bytes_eq w) words h
 
 -- that of a word that was just seen
-within_one : (words : List Word) (a : Word) → number_of_word (see words a) a < length (see words a)
+pub within_one : (words : List Word) (a : Word) → number_of_word (see words a) a < length (see words a)
 within_one words a = within (see words a) a (has_see words a)
-
--- of the one before it
-within_two : (words : List Word) (a b : Word)
-    → number_of_word (see (see words a) b) a < length (see (see words a) b)
-within_two words a b =
-    within (see (see words a) b) a (has_see_other (see words a) a b (has_see words a))
-
--- and of the one before both
-within_three : (words : List Word) (a b c : Word)
-    → number_of_word (see (see (see words a) b) c) a < length (see (see (see words a) b) c)
-within_three words a b c =
-    within (see (see (see words a) b) c) a
-    (has_see_other (see (see words a) b) a c (has_see_other (see words a) a b (has_see words a)))
-
--- of two
-numbers_within_two : (words : List Word) (a b : Word)
-    → AllByRecursion (λ n. n < length (see (see words a) b))
-    (number_of_word (see (see words a) b) a ∷ number_of_word (see (see words a) b) b ∷ [])
-numbers_within_two words a b = (within_two words a b, (within_one (see words a) b, tt))
 
 -- a word that is there stays, with more of them
 pub has_see_all : (words more : List Word) (w : Word) → list_any (bytes_eq w) words ≡ true
@@ -71,7 +50,7 @@ all_within words [] h = tt
 all_within words (w ∷ some) h = (within words w h.0, all_within words some h.1)
 
 -- of many
-numbers_within_all : (words more : List Word)
+pub numbers_within_all : (words more : List Word)
     → AllByRecursion (λ n. n < length (see_all words more)) (map (number_of_word (see_all words more)) more)
 numbers_within_all words more = all_within (see_all words more) more (all_seen words more)
 
@@ -134,49 +113,10 @@ module _ {R : Type 0} (view : R → Word) where
       ∙ ap (λ l. map (number_of_word l) (words ++ w ∷ [])) (sym whole)
       ∙ ap (map (number_of_word u)) (sym (up_to_next refs i d h))
 
--- the numbers of a phrase are those of words that were seen
-pub numbers_within : (s : Script) (p : Phrase Word) → HasNamesIn (seen s p) (numbered_phrase (seen s p) p)
-numbers_within s (phrases.Input n) = record { names = (within_one s.names n, tt); files = tt }
-numbers_within s (phrases.Load n f) =
-    record { names = (within_one s.names n, tt); files = (within_one s.files f, tt) }
-numbers_within s (phrases.Output n index) = record { names = (within_one s.names n, tt); files = tt }
-numbers_within s (phrases.Lit n literal) = record { names = (within_one s.names n, tt); files = tt }
-numbers_within s (phrases.Constant n value) = record { names = (within_one s.names n, tt); files = tt }
-numbers_within s (phrases.Binary operation n a b) = record {
-  names = (within_three s.names n a b, numbers_within_two (see s.names n) a b);
-  files = tt;
-}
-numbers_within s (phrases.Not n a) =
-    record { names = numbers_within_two s.names n a; files = tt }
-numbers_within s (phrases.Given n a literal) =
-    record { names = numbers_within_two s.names n a; files = tt }
-numbers_within s (phrases.Forget n a x) =
-    record { names = numbers_within_two s.names n a; files = tt }
-numbers_within s (phrases.Drop a) = record { names = (within_one s.names a, tt); files = tt }
-numbers_within s (phrases.Turn kind p) = record { names = tt; files = tt }
-numbers_within s (phrases.Minimise rounds) = record { names = tt; files = tt }
-numbers_within s (phrases.Limit k) = record { names = tt; files = tt }
-numbers_within s (phrases.Same a b) =
-    record { names = numbers_within_two s.names a b; files = tt }
-numbers_within s (phrases.Size a) = record { names = (within_one s.names a, tt); files = tt }
-numbers_within s (phrases.Value a bits) = record { names = (within_one s.names a, tt); files = tt }
-numbers_within s (phrases.Write names f) =
-    record { names = numbers_within_all s.names names; files = (within_one s.files f, tt) }
-numbers_within s (phrases.Vtree f) = record { names = tt; files = (within_one s.files f, tt) }
+-- ---- more words are no fewer
 
--- ---- how many words there are
-
--- one more word is one more at most
-length_see : (words : List Word) (w : Word) → length (see words w) ≤ length words + 1
-unfolding see
-length_see words w = by (list_any (bytes_eq w) words)
-  where
-    by : (b : Bool) → length (if b then words else words ++ w ∷ []) ≤ length words + 1
-    by true = omega arith
-    by false = omega (arith, length-append words (w ∷ []))
-
--- and no less
-see_least : (words : List Word) (w : Word) → length words ≤ length (see words w)
+-- one more word
+pub see_least : (words : List Word) (w : Word) → length words ≤ length (see words w)
 unfolding see
 see_least words w = by (list_any (bytes_eq w) words)
   where
@@ -189,41 +129,3 @@ pub length_see_least : (words more : List Word) → length words ≤ length (see
 length_see_least words [] = omega arith
 length_see_least words (w ∷ more) =
     omega (arith, see_least words w, length_see_least (see words w) more)
-
--- nor are they more than all together
-length_see_all : (words more : List Word) → length (see_all words more) ≤ length words + length more
-length_see_all words [] = omega arith
-length_see_all words (w ∷ more) = omega (arith, length_see words w, length_see_all (see words w) more)
-
--- a phrase has one file at most
-one_file : (p : Phrase Word) → length (files_in p) ≤ 1
-one_file (phrases.Load n f) = omega arith
-one_file (phrases.Write names f) = omega arith
-one_file (phrases.Vtree f) = omega arith
-one_file p = omega arith
-
--- there is room after one more line
-pub room_seen : (n : ℕ) (s : Script) (p : Phrase Word) → length (names_in p) ≤ 1024
-    → HasRoom n s → HasRoom (n + 1) (seen s p)
-room_seen n s p few h = record {
-  names = omega (arith, length_see_all s.names (names_in p), few, h.names);
-  files = omega (arith, length_see_all s.files (files_in p), one_file p, h.files);
-}
-
--- ---- the same, of scripts that are equal
-
--- the numbers are numbers_within
-pub numbers_within_as : (s t : Script) (p : Phrase Word) (q : Phrase ℕ)
-    → t ≡ seen s p → q ≡ numbered_phrase t p → HasNamesIn t q
-numbers_within_as s t p q e f = rw (f, e) (numbers_within s p)
-
--- there is room where no further names and files came
-pub room_as : (n : ℕ) (s t u : Script) (p : Phrase Word)
-    → length (names_in p) ≤ 1024
-    → HasRoom n s → t ≡ seen s p → u.names ≡ t.names → u.files ≡ t.files → HasRoom (n + 1) u
-room_as n s t u p few h e names files =
-    let room = room_seen n s p few h in
-    record {
-      names = omega (arith, room.names, ap (λ r. length r.names) e, ap length names);
-      files = omega (arith, room.files, ap (λ r. length r.files) e, ap length files);
-    }

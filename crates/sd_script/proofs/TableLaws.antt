@@ -11,7 +11,7 @@ use Rattle.std.proofs.Common.{◌<◌, ◌≢◌, ◌&&◌, get_or, set, subst, 
 use Rattle.std.proofs.lemmas.Bool.Decides.{nat_tests}
 use Rattle.std.specs.Prelude.{◌==◌}
 use Rattle.sd_script.specs.Commands.{has}
-use Rattle.sd_script.specs.Phrases.{Word}
+use Rattle.sd_script.specs.Forms.{Word}
 use Rattle.sd_script.specs.Scripts.{see, number_of_word}
 
 -- ---- the first index at which a test passes, with one more element behind
@@ -88,20 +88,6 @@ number_see_other words w x h = by (list_any (bytes_eq x) words)
         ≡ position_or_len (bytes_eq w) words
     by true = refl
     by false = index_stays (bytes_eq w) words x h
-
--- with one more word behind it
-pub number_see_one : (words : List Word) (w x : Word) → number_of_word (see (see words w) x) w ≡ number_of_word words w
-number_see_one words w x = number_see_other (see words w) w x (has_see words w) ∙ number_see words w
-
--- and with two
-pub number_see_two : (words : List Word) (w x y : Word)
-    → number_of_word (see (see (see words w) x) y) w ≡ number_of_word words w
-number_see_two words w x y =
-    number_see_other (see (see words w) x) w y (has_see_other (see words w) w x (has_see words w))
-    ∙ number_see_one words w x
-
--- the three
-pub ruleset numbers_stay = (number_see, number_see_one, number_see_two)
 
 -- ---- a set of references
 

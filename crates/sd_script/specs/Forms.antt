@@ -1,9 +1,9 @@
 -- The forms of the words of a script.
-use Rattle.std.specs.Prelude.{ℕ, Bool, false, ◌&&◌, ◌||◌, ◌==◌, nat_le, if◌then◌else◌}
+use Rattle.std.specs.Prelude.{ℕ, min, Bool, false, ◌&&◌, ◌||◌, ◌==◌, nat_le, if◌then◌else◌}
 use Rattle.std.specs.Prelude.{List, [], ◌∷◌, length, map, Option, Some, None, option_map, ℤ, pos, int_le, unsigned_abs}
 use Rattle.std.specs.Char.{is_ascii_alphabetic, is_ascii_alphanumeric}
 use Rattle.std.specs.List.{list_all}
-use Rattle.sd_base.specs.Numbers.{integer_value}
+use Rattle.sd_base.specs.Numbers.{natural_value, integer_value}
 pub use Rattle.sd_base.specs.Numbers.{is_within}
 
 -- a word, as its bytes
@@ -47,9 +47,21 @@ digit_values word = map (λ b. b == 49) word
 abbrev pub bits_of : ℕ → Word → Option (List Bool)
 bits_of v word = if length word == v && list_all is_bit word then Some (digit_values word) else None
 
--- an integer as a variable; one below 1 is 0, which is none
+-- a word that is a number; one past 4,294,967,295 is that one, which is out of each range
+abbrev pub number_of : Word → Option ℕ
+number_of word = option_map (min 4294967295) (natural_value word)
+
+-- an integer as a literal; one of a variable past 2,147,483,647 is that one, which is out of range
+abbrev pub literal_from : ℤ → ℤ
+literal_from x = if nat_le (unsigned_abs x) 2147483647 then x else pos 2147483647
+
+-- a word that is an integer, as a literal
+abbrev pub literal_of : Word → Option ℤ
+literal_of word = option_map literal_from (integer_value word)
+
+-- an integer as a variable; one below 1 is 0, and one past 4,294,967,295 is that one, which are none
 abbrev pub variable_from : ℤ → ℕ
-variable_from x = if int_le (pos 1) x then unsigned_abs x else 0
+variable_from x = if int_le (pos 1) x then min 4294967295 (unsigned_abs x) else 0
 
 -- a word that is an integer, as a variable
 abbrev pub variable_of : Word → Option ℕ

@@ -1,6 +1,5 @@
 pub mod Faults
 pub mod Forms
-pub mod Phrases
 pub mod Commands
 pub mod Footprints
 pub mod Table

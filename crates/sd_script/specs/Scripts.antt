@@ -50,11 +50,16 @@ checked v o earlier line action = let said = footprint action in do
   fault_if (not (formula_fits o action)) (at_line line (codes ": no formula"))
   Ok tt
 
--- a script with one more command behind the others
+-- a script with a command behind the others
+abbrev pub with_command : ℕ → Action → Script → Script
+with_command line action s =
+    record s { commands = s.commands ++ record { line = line; action = action } ∷ [] }
+
+-- the same, where the command has no fault
 abbrev pub with_action : ℕ → ℕ → ℕ → Action → Script → Result Script (List ℕ)
 with_action v o line action s = do
   checked v o s.commands line action
-  Ok (record s { commands = s.commands ++ record { line = line; action = action } ∷ [] })
+  Ok (with_command line action s)
 
 -- a script with the command of a line behind the others
 abbrev pub with_line : ℕ → ℕ → Script → TextLine → Result Script (List ℕ)

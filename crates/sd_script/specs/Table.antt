@@ -5,16 +5,17 @@ use Rattle.std.specs.Prelude.{List, [], ◌∷◌, ◌++◌, length, take, drop,
 use Rattle.std.specs.List.{list_any, position_or_len}
 use Rattle.std.specs.Bool.{then_some}
 use Rattle.std.specs.Option.{option_and_then}
-use Rattle.sd_base.specs.Numbers.{natural_value, integer_value}
 use Rattle.sd_base.specs.Words.{is_filled}
 use Rattle.sd_model.specs.declared.trees.Move.TheVariants.{RotateLeft, RotateRight, Swap}
+use Rattle.sd_model.specs.declared.trees.Operation.{Operation}
 use Rattle.sd_model.specs.declared.trees.Operation.TheVariants.{And, Or, Xor}
 use Rattle.sd_script.specs.declared.command.Action.{Action}
 use Rattle.sd_script.specs.declared.command.Action.TheVariants.{Input, Load, Output, Lit, Constant, Binary, Not}
 use Rattle.sd_script.specs.declared.command.Action.TheVariants.{Given, Forget, Drop, Turn, Minimise, Limit}
 use Rattle.sd_script.specs.declared.command.Action.TheVariants.{Same, Size, Value, Write, Vtree}
 use Rattle.sd_script.specs.declared.command.Command.{Command}
-use Rattle.sd_script.specs.Forms.{Word, is_name, are_names, is_file_name, bits_of, variable_of}
+use Rattle.sd_script.specs.Forms.{Word, is_name, are_names, is_file_name, bits_of, number_of}
+use Rattle.sd_script.specs.Forms.{literal_of, variable_of}
 
 -- A script as it is seen. The names, and apart from them the files, stand in the order in which
 -- they are first seen, and the commands have their indices there, counted from 0.
@@ -43,9 +44,14 @@ number_of_word words word = position_or_len (bytes_eq word) words
 
 -- ---- the parts of a line
 
--- a script with the names and files so far, and the words of a line that are left
+-- the names and files so far
+pub record Seen : Type 0 where
+  pub names : List Word
+  pub files : List Word
+
+-- what was seen so far, and the words of a line that are left
 abbrev pub Rest : Type 0
-Rest = Script × List Word
+Rest = Seen × List Word
 
 -- a part of a line: where the words that are left have its form, its value, and what is left behind it
 abbrev pub Part : Type 0 → Type 0
@@ -84,40 +90,70 @@ names (s, words) = let most = length words - 1 in let own = take most words in
     then_some (are_names own)
     (map (number_of_word all) own, (record s { names = all }, drop most words))
 
--- The table of commands over v variables: what stands behind the first word.
-abbrev pub table : ℕ → Word → Part Action
-table v command =
-    if bytes_eq command (codes "write") then (do pure (Write (← names) (← file)))
-    else if bytes_eq command (codes "input") then (do pure (Input (← name)))
-    else if bytes_eq command (codes "true") then (do pure (Constant (← name) true))
-    else if bytes_eq command (codes "false") then (do pure (Constant (← name) false))
+-- ---- the table of commands, over v variables: what stands behind the first word
+
+-- a write of names to a file
+abbrev pub write_row : Part Action
+write_row = do pure (Write (← names) (← file))
+
+-- two formulas joined
+abbrev pub binary_row : Operation → Part Action
+binary_row operation = do pure (Binary operation (← name) (← name) (← name))
+
+-- the rows of the commands that bind no name
+abbrev pub other_rows : ℕ → Word → Part Action
+other_rows v command =
+    if bytes_eq command (codes "write") then write_row
     else if bytes_eq command (codes "drop") then (do pure (Drop (← name)))
-    else if bytes_eq command (codes "rotl") then (do pure (Turn RotateLeft (← value natural_value)))
-    else if bytes_eq command (codes "rotr") then (do pure (Turn RotateRight (← value natural_value)))
-    else if bytes_eq command (codes "swap") then (do pure (Turn Swap (← value natural_value)))
-    else if bytes_eq command (codes "minimise") then (do pure (Minimise (← value natural_value)))
-    else if bytes_eq command (codes "limit") then (do pure (Limit (← value natural_value)))
+    else if bytes_eq command (codes "rotl") then (do pure (Turn RotateLeft (← value number_of)))
+    else if bytes_eq command (codes "rotr") then (do pure (Turn RotateRight (← value number_of)))
+    else if bytes_eq command (codes "swap") then (do pure (Turn Swap (← value number_of)))
+    else if bytes_eq command (codes "minimise") then (do pure (Minimise (← value number_of)))
+    else if bytes_eq command (codes "limit") then (do pure (Limit (← value number_of)))
     else if bytes_eq command (codes "size") then (do pure (Size (← name)))
     else if bytes_eq command (codes "vtree") then (do pure (Vtree (← file)))
-    else if bytes_eq command (codes "load") then (do pure (Load (← name) (← file)))
-    else if bytes_eq command (codes "output") then (do pure (Output (← name) (← value natural_value)))
-    else if bytes_eq command (codes "lit") then (do pure (Lit (← name) (← value integer_value)))
-    else if bytes_eq command (codes "not") then (do pure (Not (← name) (← name)))
     else if bytes_eq command (codes "same") then (do pure (Same (← name) (← name)))
     else if bytes_eq command (codes "value") then (do pure (Value (← name) (← value (bits_of v))))
-    else if bytes_eq command (codes "and") then (do pure (Binary And (← name) (← name) (← name)))
-    else if bytes_eq command (codes "or") then (do pure (Binary Or (← name) (← name) (← name)))
-    else if bytes_eq command (codes "xor") then (do pure (Binary Xor (← name) (← name) (← name)))
-    else if bytes_eq command (codes "given") then (do pure (Given (← name) (← name) (← value integer_value)))
-    else if bytes_eq command (codes "forget") then (do pure (Forget (← name) (← name) (← value variable_of)))
     else (λ rest. None)
 
--- a command behind which no word is left
-abbrev pub whole : Action × Rest → Option (Action × Script)
-whole (action, (s, words)) = then_some (not (is_filled words)) (action, s)
+-- those of the commands that bind a name to what is made of other names, and then the others
+abbrev pub made_rows : ℕ → Word → Part Action
+made_rows v command =
+    if bytes_eq command (codes "not") then (do pure (Not (← name) (← name)))
+    else if bytes_eq command (codes "and") then binary_row And
+    else if bytes_eq command (codes "or") then binary_row Or
+    else if bytes_eq command (codes "xor") then binary_row Xor
+    else if bytes_eq command (codes "given") then (do pure (Given (← name) (← name) (← value literal_of)))
+    else if bytes_eq command (codes "forget") then (do pure (Forget (← name) (← name) (← value variable_of)))
+    else other_rows v command
+
+-- all of them: first those of the commands that bind a name to what needs no other
+abbrev pub table : ℕ → Word → Part Action
+table v command =
+    if bytes_eq command (codes "input") then (do pure (Input (← name)))
+    else if bytes_eq command (codes "true") then (do pure (Constant (← name) true))
+    else if bytes_eq command (codes "false") then (do pure (Constant (← name) false))
+    else if bytes_eq command (codes "load") then (do pure (Load (← name) (← file)))
+    else if bytes_eq command (codes "output") then (do pure (Output (← name) (← value number_of)))
+    else if bytes_eq command (codes "lit") then (do pure (Lit (← name) (← value literal_of)))
+    else made_rows v command
+
+-- ---- a line
+
+-- a command behind which no word is left, and what was seen then
+abbrev pub whole : Action × Rest → Option (Action × Seen)
+whole (action, (seen, words)) = then_some (not (is_filled words)) (action, seen)
+
+-- the command of the words of a line, and what was seen then
+abbrev pub line_command : ℕ → Seen → List Word → Option (Action × Seen)
+line_command v seen [] = None
+line_command v seen (command ∷ words) = option_and_then whole (table v command (seen, words))
+
+-- a command, and a script with what was seen then
+abbrev pub with_seen : Script → Action × Seen → Action × Script
+with_seen s (action, seen) = (action, record s { names = seen.names; files = seen.files })
 
 -- the command of the words of a line, and the script with its names and files
 unfoldable pub command_of : ℕ → Script → List Word → Option (Action × Script)
-command_of v s [] = None
-command_of v s (command ∷ words) =
-    option_and_then whole (table v command (s, words))
+command_of v s words =
+    option_map (with_seen s) (line_command v (record { names = s.names; files = s.files }) words)

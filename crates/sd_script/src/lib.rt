@@ -4,14 +4,17 @@
 
 mod command;
 mod fault;
+mod footprint;
+mod forms;
 mod indices;
 pub mod laws;
 mod marks;
+mod misread;
 mod number;
-mod phrase;
 mod reader;
+mod rest;
+mod row;
 mod script;
-mod seen;
 mod table;
 
 pub use command::{Action, Command};

@@ -1,49 +1,104 @@
-//! What a command does to the marks of names and files.
+//! Marks of numbers.
 
-ghost use Rattle.std.specs.Prelude.{◌≡◌, ◌<◌, ℕ, not, ◌&&◌, ◌||◌, length};
-ghost use Rattle.std.specs.List.{AllByRecursion};
-ghost use Rattle.sd_script.specs.Commands.{binds, frees, writes, has};
-ghost use Rattle.sd_script.specs.Phrases.{names_in, files_in, action_of};
-ghost use Rattle.sd_script.specs.Tables.{table_words, is_marked};
-ghost use Rattle.sd_script.specs.Views.{numbers_view};
+ghost use Rattle.std.specs.Prelude.{◌≡◌, ◌<◌, ◌≤◌, ℕ, [], ◌∷◌, false, not, ◌&&◌, ◌||◌, OnOk, vec_len, option_to_list};
+ghost use Rattle.sd_script.specs.Commands.{has};
+ghost use Rattle.sd_script.specs.Steps.{AreBelow};
 
-use crate::phrase::Phrase;
-use crate::table::NameTable;
+use std::alloc::{AllocError, Global};
 
-/// Marks the name that a command binds, and takes the mark of the one that it frees.
-pub(crate) fn mark_names(names: &mut NameTable<'_>, phrase: &Phrase<'_, u32>)
-    requires { AllByRecursion (λ n. n < length (table_words names.old))
-        (names_in (numbers_view phrase.now)) }
-    ensures words { table_words names.new ≡ table_words names.old }
-    ensures marks { (i : ℕ) → is_marked names.new i
-        ≡ (has (binds (action_of (numbers_view phrase.now))) i
-        || (not (has (frees (action_of (numbers_view phrase.now))) i) && is_marked names.old i)) }
-{
-    match phrase {
-        Phrase::Input(n)
-        | Phrase::Load(n, _)
-        | Phrase::Output(n, _)
-        | Phrase::Lit(n, _)
-        | Phrase::Constant(n, _)
-        | Phrase::Binary(_, n, _, _)
-        | Phrase::Not(n, _)
-        | Phrase::Given(n, _, _)
-        | Phrase::Forget(n, _, _) => names.mark(*n),
-        Phrase::Drop(a) => names.unmark(*a),
-        _ => {}
-    }
+/// Which numbers are marked.
+#[derive(Drop)]
+pub(crate) struct Marks {
+    /// By number; there may be more places than numbers.
+    pub(crate) marks: Vec<bool>,
 }
 
-/// Marks the file that a command writes.
-pub(crate) fn mark_files(files: &mut NameTable<'_>, phrase: &Phrase<'_, u32>)
-    requires { AllByRecursion (λ n. n < length (table_words files.old))
-        (files_in (numbers_view phrase.now)) }
-    ensures words { table_words files.new ≡ table_words files.old }
-    ensures marks { (i : ℕ) → is_marked files.new i
-        ≡ (has (writes (action_of (numbers_view phrase.now))) i || is_marked files.old i) }
-{
-    match phrase {
-        Phrase::Write(_, file) | Phrase::Vtree(file) => files.mark(*file),
-        _ => {}
+impl Marks {
+    ghost use Rattle.sd_script.specs.Tables.{is_marked};
+
+    /// No mark.
+    pub(crate) fn new(alloc: Global) -> Self
+        ensures { (i : ℕ) → is_marked result i ≡ false }
+    {
+        Marks {
+            marks: Vec::new(alloc),
+        }
+    }
+
+    /// Makes room for the marks of the numbers below a count.
+    pub(crate) fn make_room(&mut self, count: usize) -> Result<(), AllocError>
+        ensures marks { (i : ℕ) → is_marked self.new i ≡ is_marked self.old i }
+        ensures room { OnOk result (count ≤ vec_len self.new.marks) }
+    {
+        while self.marks.len() < count {
+            self.marks.push(false)?;
+        }
+        Ok(())
+    }
+
+    /// Whether a number is marked.
+    pub(crate) fn is_marked(&self, number: u32) -> bool
+        ensures { result ≡ is_marked self.now number }
+    {
+        match self.marks.get(number as usize) {
+            Some(mark) => *mark,
+            None => false,
+        }
+    }
+
+    /// Marks a number.
+    #[tactic(auto, using(crate::proofs::TableLaws::mark_there))]
+    fn mark(&mut self, number: u32)
+        requires { number < vec_len self.old.marks }
+        ensures marks { (i : ℕ) → is_marked self.new i
+            ≡ (has (number ∷ []) i || is_marked self.old i) }
+        ensures room { vec_len self.new.marks ≡ vec_len self.old.marks }
+    {
+        self.marks[number as usize] = true;
+    }
+
+    /// Takes the mark of a number.
+    #[tactic(auto, using(crate::proofs::TableLaws::mark_gone))]
+    fn unmark(&mut self, number: u32)
+        requires { number < vec_len self.old.marks }
+        ensures marks { (i : ℕ) → is_marked self.new i
+            ≡ (not (has (number ∷ []) i) && is_marked self.old i) }
+        ensures room { vec_len self.new.marks ≡ vec_len self.old.marks }
+    {
+        self.marks[number as usize] = false;
+    }
+
+    /// Takes the mark of one number and marks another, where they are there.
+    pub(crate) fn change(&mut self, taken: Option<u32>, given: Option<u32>)
+        requires taken { AreBelow (vec_len self.old.marks) (option_to_list taken) }
+        requires given { AreBelow (vec_len self.old.marks) (option_to_list given) }
+        ensures { (i : ℕ) → is_marked self.new i ≡ (has (option_to_list given) i
+            || (not (has (option_to_list taken) i) && is_marked self.old i)) }
+    {
+        self.unmark_some(taken);
+        self.mark_some(given);
+    }
+
+    // Marks a number that is there.
+    fn mark_some(&mut self, number: Option<u32>)
+        requires { AreBelow (vec_len self.old.marks) (option_to_list number) }
+        ensures { (i : ℕ) → is_marked self.new i
+            ≡ (has (option_to_list number) i || is_marked self.old i) }
+    {
+        if let Some(number) = number {
+            self.mark(number);
+        }
+    }
+
+    // Takes the mark of a number that is there.
+    fn unmark_some(&mut self, number: Option<u32>)
+        requires { AreBelow (vec_len self.old.marks) (option_to_list number) }
+        ensures marks { (i : ℕ) → is_marked self.new i
+            ≡ (not (has (option_to_list number) i) && is_marked self.old i) }
+        ensures room { vec_len self.new.marks ≡ vec_len self.old.marks }
+    {
+        if let Some(number) = number {
+            self.unmark(number);
+        }
     }
 }

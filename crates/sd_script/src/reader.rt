@@ -1,24 +1,23 @@
 //! The commands of a text, line by line.
 
-ghost use Rattle.std.specs.Prelude.{◌≡◌, ◌+◌, ◌≤◌, ◌<◌, ℕ, true, length, IfOk, OnOk};
+ghost use Rattle.std.specs.Prelude.{◌≡◌, ◌+◌, ◌≤◌, ◌<◌, ℕ, true, length, IfOk, OnOk, option_to_list, vec_len};
 ghost use Rattle.std.specs.List.{list_any, list_all};
 ghost use Rattle.sd_base.specs.Views.{line_view};
-ghost use Rattle.sd_script.specs.Commands.{uses, binds, writes, has, bound, written_files, loads};
+ghost use Rattle.sd_script.specs.Commands.{has, bound, written_files, loads};
 ghost use Rattle.sd_script.specs.Commands as commands;
-ghost use Rattle.sd_script.specs.Phrases as phrases;
-ghost use Rattle.sd_script.specs.Phrases.{names_in, with_phrase, seen, numbered_phrase, with_command};
+ghost use Rattle.sd_script.specs.Read.{IsScript};
 ghost use Rattle.sd_script.specs.Scripts as texts;
 ghost use Rattle.sd_script.specs.Scripts.{Gives, empty};
 ghost use Rattle.sd_script.specs.Tables.{table_words, is_marked};
-ghost use Rattle.sd_script.specs.Views.{viewed, numbers_view};
+ghost use Rattle.sd_script.specs.Views.{uses_view};
 
 use crate::command::{Action, Command};
 use crate::fault::ScriptFault;
-use crate::marks::{mark_files, mark_names};
-use crate::number::{action_of, formula_fits, is_load, literals_fit, numbers_fit};
-use crate::phrase::{Phrase, phrase_of};
-use crate::seen::number_words;
-use crate::table::NameTable;
+use crate::footprint::{Footprint, Uses, footprint_of};
+use crate::marks::Marks;
+use crate::misread::Misread;
+use crate::number::{formula_fits, numbers_fit, variable_fits};
+use crate::rest::Rest;
 use sd_base::Line;
 use std::alloc::{AllocError, Global};
 
@@ -30,20 +29,21 @@ const MAX_LOADS: u32 = 64;
 #[derive(Drop)]
 pub(crate) struct Reader<'a> {
     pub(crate) commands: Vec<Command>,
-    /// Marked where they are bound.
-    pub(crate) names: NameTable<'a>,
-    /// Marked where they are written.
-    pub(crate) files: NameTable<'a>,
+    pub(crate) rest: Rest<'a>,
+    /// Names that are bound.
+    names_bound: Marks,
+    /// Files that are written.
+    files_written: Marks,
     /// How many commands load a file.
     loaded: u32,
-    ghost marked: { (i : ℕ) → is_marked names i ≡ has (bound commands.items) i },
-    ghost noted: { (i : ℕ) → is_marked files i ≡ has (written_files commands.items) i },
+    ghost marked: { (i : ℕ) → is_marked names_bound i ≡ has (bound commands.items) i },
+    ghost noted: { (i : ℕ) → is_marked files_written i ≡ has (written_files commands.items) i },
     ghost count: { loaded ≡ loads commands.items },
     ghost within_limit: { loaded ≤ 64 },
 }
 
 impl<'a> Reader<'a> {
-    ghost use Rattle.sd_script.specs.Steps.{script_view, HasNamesIn, IsPhraseInRange, HasRoom};
+    ghost use Rattle.sd_script.specs.Steps.{script_view, IsInRange, AreBelow};
 
     /// Nothing read yet.
     pub(crate) fn new(alloc: Global) -> Self
@@ -51,8 +51,9 @@ impl<'a> Reader<'a> {
     {
         Reader {
             commands: Vec::new(alloc),
-            names: NameTable::new(alloc),
-            files: NameTable::new(alloc),
+            rest: Rest::new(alloc),
+            names_bound: Marks::new(alloc),
+            files_written: Marks::new(alloc),
             loaded: 0,
         }
     }
@@ -61,32 +62,18 @@ impl<'a> Reader<'a> {
     fn is_bound(&self, number: u32) -> bool
         ensures { result ≡ has (bound self.now.commands.items) number }
     {
-        self.names.is_marked(number)
+        self.names_bound.is_marked(number)
     }
 
-    /// Whether the file of a number is written.
-    fn is_written(&self, number: u32) -> bool
-        ensures { result ≡ has (written_files self.now.commands.items) number }
+    /// Whether names are bound.
+    fn are_bound(&self, names: &Uses<'_>) -> bool
+        ensures { result ≡ list_all (has (bound self.now.commands.items)) (uses_view names.now) }
     {
-        self.files.is_marked(number)
-    }
-
-    /// Whether the names that a command uses are bound.
-    fn all_used_bound(&self, phrase: &Phrase<'a, u32>) -> bool
-        ensures { result ≡ list_all (has (bound self.now.commands.items))
-            (uses (phrases.action_of (numbers_view phrase.now))) }
-    {
-        match phrase {
-            Phrase::Binary(_, _, a, b) | Phrase::Same(a, b) => self.is_bound(*a)
-                && self.is_bound(*b),
-            Phrase::Not(_, a)
-            | Phrase::Given(_, a, _)
-            | Phrase::Forget(_, a, _)
-            | Phrase::Drop(a)
-            | Phrase::Size(a)
-            | Phrase::Value(a, _) => self.is_bound(*a),
-            Phrase::Write(names, _) => self.all_bound(names),
-            _ => true,
+        match names {
+            Uses::Nothing => true,
+            Uses::One(a) => self.is_bound(*a),
+            Uses::Two(a, b) => self.is_bound(*a) && self.is_bound(*b),
+            Uses::All(numbers) => self.all_bound(numbers),
         }
     }
 
@@ -97,33 +84,24 @@ impl<'a> Reader<'a> {
         numbers.iter().all(|number| self.is_bound(*number))
     }
 
-    /// Whether the name that a command binds is bound.
-    fn is_taken(&self, phrase: &Phrase<'a, u32>) -> bool
-        ensures { result ≡ list_any (has (bound self.now.commands.items))
-            (binds (phrases.action_of (numbers_view phrase.now))) }
+    /// Whether a name is bound, if there is one.
+    fn is_taken(&self, name: Option<u32>) -> bool
+        ensures { result ≡ list_any (has (bound self.now.commands.items)) (option_to_list name) }
     {
-        match phrase {
-            Phrase::Input(n)
-            | Phrase::Load(n, _)
-            | Phrase::Output(n, _)
-            | Phrase::Lit(n, _)
-            | Phrase::Constant(n, _)
-            | Phrase::Binary(_, n, _, _)
-            | Phrase::Not(n, _)
-            | Phrase::Given(n, _, _)
-            | Phrase::Forget(n, _, _) => self.is_bound(*n),
-            _ => false,
+        match name {
+            Some(number) => self.is_bound(number),
+            None => false,
         }
     }
 
-    /// Whether the file that a command writes is written.
-    fn is_twice(&self, phrase: &Phrase<'a, u32>) -> bool
+    /// Whether a file is written, if there is one.
+    fn is_twice(&self, file: Option<u32>) -> bool
         ensures { result ≡ list_any (has (written_files self.now.commands.items))
-            (writes (phrases.action_of (numbers_view phrase.now))) }
+            (option_to_list file) }
     {
-        match phrase {
-            Phrase::Write(_, file) | Phrase::Vtree(file) => self.is_written(*file),
-            _ => false,
+        match file {
+            Some(number) => self.files_written.is_marked(number),
+            None => false,
         }
     }
 
@@ -133,34 +111,34 @@ impl<'a> Reader<'a> {
         variables: u32,
         outputs: u32,
         line: u32,
-        phrase: &Phrase<'a, u32>,
+        action: &Action,
     ) -> Result<(), ScriptFault>
-        requires { 1 ≤ variables }
+        requires at_least_one { 1 ≤ variables }
+        requires within_limit { variables ≤ 1024 }
         ensures value { Gives (λ _. tt) result
-            (texts.checked variables outputs self.now.commands.items line
-            (phrases.action_of (numbers_view phrase.now))) }
-        ensures fits { OnOk result
-            (IsPhraseInRange variables outputs self.now.loaded (numbers_view phrase.now)) }
+            (texts.checked variables outputs self.now.commands.items line action.now) }
+        ensures fits { OnOk result (IsInRange variables outputs self.now.loaded action.now) }
     {
-        if !self.all_used_bound(phrase) {
+        let said = footprint_of(action);
+        if !self.are_bound(&said.uses) {
             return Err(ScriptFault::NameUnknown { line });
         }
-        if self.is_taken(phrase) {
+        if self.is_taken(said.binds) {
             return Err(ScriptFault::NameTaken { line });
         }
-        if !literals_fit(variables, phrase) {
+        if !variable_fits(variables, said.variable) {
             return Err(ScriptFault::LiteralRange { line });
         }
-        if !numbers_fit(variables, outputs, phrase) {
+        if !numbers_fit(variables, outputs, action) {
             return Err(ScriptFault::NumberRange { line });
         }
-        if self.is_twice(phrase) {
+        if self.is_twice(said.writes) {
             return Err(ScriptFault::FileTwice { line });
         }
-        if is_load(phrase) && self.loaded >= MAX_LOADS {
+        if said.loads && self.loaded >= MAX_LOADS {
             return Err(ScriptFault::TooManyLoads { line });
         }
-        if !formula_fits(outputs, phrase) {
+        if !formula_fits(outputs, action) {
             return Err(ScriptFault::NoFormula { line });
         }
         Ok(())
@@ -168,67 +146,34 @@ impl<'a> Reader<'a> {
 
     /// Puts a command behind the others.
     #[tactic(auto, using(crate::proofs::Marking::more))]
-    fn put(&mut self, line: u32, action: Action, phrase: &Phrase<'a, u32>) -> Result<(), AllocError>
-        requires action { action ≡ phrases.action_of (numbers_view phrase.now) }
-        requires names { HasNamesIn (script_view self.old) (numbers_view phrase.now) }
-        requires loads { commands.is_load (phrases.action_of (numbers_view phrase.now)) ≡ true
-            → self.old.loaded < 64 }
-        ensures value { OnOk result (script_view self.new ≡ record (script_view self.old) {
-          commands = with_command self.old.commands.items line (numbers_view phrase.now);
-        }) }
-        ensures names { table_words self.new.names ≡ table_words self.old.names }
-        ensures files { table_words self.new.files ≡ table_words self.old.files }
+    fn put(&mut self, line: u32, action: Action) -> Result<(), AllocError>
+        requires binds { AreBelow (length (script_view self.old).names) (commands.binds action) }
+        requires frees { AreBelow (length (script_view self.old).names) (commands.frees action) }
+        requires writes { AreBelow (length (script_view self.old).files) (commands.writes action) }
+        requires loads { commands.is_load action ≡ true → self.old.loaded < 64 }
+        ensures { OnOk result (script_view self.new
+            ≡ texts.with_command line action (script_view self.old)) }
     {
+        let Footprint {
+            binds,
+            frees,
+            writes,
+            loads,
+            ..
+        } = footprint_of(&action);
+        self.names_bound.make_room(self.rest.names.len())?;
+        self.files_written.make_room(self.rest.files.len())?;
         self.commands.push(Command { line, action })?;
-        mark_names(&mut self.names, phrase);
-        mark_files(&mut self.files, phrase);
-        if is_load(phrase) {
+        self.names_bound.change(frees, binds);
+        self.files_written.change(None, writes);
+        if loads {
             self.loaded += 1;
         }
         Ok(())
     }
 
-    /// Puts a command behind the others, if it has no fault.
-    fn put_checked(
-        &mut self,
-        alloc: Global,
-        variables: u32,
-        outputs: u32,
-        line: u32,
-        phrase: &Phrase<'a, u32>,
-    ) -> Result<(), ScriptFault>
-        requires at_least_one { 1 ≤ variables }
-        requires within_limit { variables ≤ 1024 }
-        requires names { HasNamesIn (script_view self.old) (numbers_view phrase.now) }
-        ensures value { Gives (λ _. script_view self.new) result
-            (with_phrase variables outputs (script_view self.old) line (numbers_view phrase.now)) }
-        ensures names { table_words self.new.names ≡ table_words self.old.names }
-        ensures files { table_words self.new.files ≡ table_words self.old.files }
-    {
-        self.check(variables, outputs, line, phrase)?;
-        let action = action_of(alloc, variables, outputs, phrase)?;
-        self.put(line, action, phrase)?;
-        Ok(())
-    }
-
-    /// The command over numbers; names and files that are new are put behind the others.
-    fn number(
-        &mut self,
-        alloc: Global,
-        phrase: &Phrase<'a, &'a str>,
-    ) -> Result<Phrase<'a, u32>, AllocError>
-        requires room { HasRoom 100000 (script_view self.old) }
-        requires few { length (names_in (viewed (λ word. word.now) phrase.now)) ≤ 1024 }
-        ensures seen { OnOk result (script_view self.new
-            ≡ seen (script_view self.old) (viewed (λ word. word.now) phrase.now)) }
-        ensures numbered { IfOk result (λ p. numbers_view p ≡ numbered_phrase (script_view self.new)
-            (viewed (λ word. word.now) phrase.now)) }
-    {
-        number_words(alloc, &mut self.names, &mut self.files, phrase)
-    }
-
     /// Reads a command line.
-    #[tactic(auto, using(crate::proofs::Phrases::command_of_phrase))]
+    #[tactic(auto, unfolding(crate::specs::Table::command_of))]
     fn read_command(
         &mut self,
         alloc: Global,
@@ -238,18 +183,19 @@ impl<'a> Reader<'a> {
     ) -> Result<(), ScriptFault>
         requires at_least_one { 1 ≤ variables }
         requires within_limit { variables ≤ 1024 }
-        requires below { line.now.number ≤ 100000 }
-        requires room { HasRoom line.now.number (script_view self.old) }
         ensures value { Gives (λ _. script_view self.new) result
             (texts.with_line variables outputs (script_view self.old) (line_view line.now)) }
-        ensures room { OnOk result (HasRoom (line.now.number + 1) (script_view self.new)) }
+        ensures script { OnOk result (IsScript variables outputs (script_view self.old)
+            → IsScript variables outputs (script_view self.new)) }
     {
         let number = line.number;
-        let Some(words) = phrase_of(alloc, variables, line)? else {
-            return Err(ScriptFault::BadLine { line: number });
+        let action = match self.rest.command(alloc, variables, line) {
+            Ok(action) => action,
+            Err(Misread::BadForm) => return Err(ScriptFault::BadLine { line: number }),
+            Err(Misread::OutOfMemory) => return Err(ScriptFault::OutOfMemory),
         };
-        let phrase = self.number(alloc, &words)?;
-        self.put_checked(alloc, variables, outputs, number, &phrase)?;
+        self.check(variables, outputs, number, &action)?;
+        self.put(number, action)?;
         Ok(())
     }
 
@@ -263,10 +209,10 @@ impl<'a> Reader<'a> {
     ) -> Result<(), ScriptFault>
         requires at_least_one { 1 ≤ variables }
         requires within_limit { variables ≤ 1024 }
-        requires room { HasRoom line.now.number (script_view self.old) }
         ensures value { Gives (λ _. script_view self.new) result
             (texts.after_line variables outputs (script_view self.old) (line_view line.now)) }
-        ensures room { OnOk result (HasRoom (line.now.number + 1) (script_view self.new)) }
+        ensures script { OnOk result (IsScript variables outputs (script_view self.old)
+            → IsScript variables outputs (script_view self.new)) }
     {
         if line.number > MAX_LINES {
             return Err(ScriptFault::TooManyLines);

@@ -80,8 +80,8 @@ pub fn read_script(
     ensures within_limit { IfOk result (λ script. length script.commands ≤ 100000) }
 {
     let reader = read_lines(alloc, bytes, variables, outputs)?;
-    let names = reader.names.texts(alloc)?;
-    let files = reader.files.texts(alloc)?;
+    let names = reader.rest.names.texts(alloc)?;
+    let files = reader.rest.files.texts(alloc)?;
     Ok(Script {
         commands: reader.commands,
         names,
@@ -90,7 +90,7 @@ pub fn read_script(
 }
 
 /// What the lines of a text say.
-#[tactic(auto, unfolding(crate::specs::Scripts::script_of), using(crate::proofs::Ahead::room))]
+#[tactic(auto, unfolding(crate::specs::Scripts::script_of), using(crate::proofs::Allowed::no_commands))]
 fn read_lines(
     alloc: Global,
     bytes: &[u8],
@@ -100,7 +100,8 @@ fn read_lines(
     requires at_least_one { 1 ≤ variables }
     requires within_limit { variables ≤ 1024 }
     requires fits { length bytes.now ≤ 67108864 }
-    ensures { Gives script_view result (script_of variables outputs bytes.now) }
+    ensures value { Gives script_view result (script_of variables outputs bytes.now) }
+    ensures script { IfOk result (λ reader. IsScript variables outputs (script_view reader)) }
 {
     let mut reader = Reader::new(alloc);
     for line in Lines::new(bytes) {

@@ -3,7 +3,8 @@ use Rattle.sd_base.specs.Lines.{numbered_lines_from}
 use Rattle.sd_base.specs.Views.{lines_left}
 use Rattle.sd_base.specs.Words.{lines_of}
 use Rattle.sd_script.specs.Scripts.{after_lines, empty}
-use Rattle.sd_script.specs.Steps.{script_view, HasRoomFor}
+use Rattle.sd_script.specs.Read.{IsScript}
+use Rattle.sd_script.specs.Steps.{script_view}
 use Rattle.sd_script.proofs.script.read_lines.Given as goal
 
 -- what is left of the text, read after what was read, is all of it
@@ -13,5 +14,5 @@ invariant-loop-line l = record {
   ends : (goal.iterator-loop-line).is_finite l.line-iterator;
   same : after_lines l.variables l.outputs (script_view l.reader) (lines_left l.line-iterator)
       ≡ after_lines l.variables l.outputs empty (numbered_lines_from 1 (lines_of l.bytes));
-  room : HasRoomFor (lines_left l.line-iterator) (script_view l.reader);
+  script : IsScript l.variables l.outputs (script_view l.reader);
 }

@@ -1,7 +1,6 @@
 use Rattle.std.proofs.Common.{sym, subst}
 use Rattle.sd_script.specs.Read.{IsScript}
 use Rattle.sd_script.specs.Steps.{script_view}
-use Rattle.sd_script.proofs.Allowed.{is_script}
 use Rattle.sd_script.proofs.FewLines.{few_commands}
 use Rattle.sd_script.proofs.script.read_script.Goals as goal
 
@@ -9,7 +8,7 @@ use Rattle.sd_script.proofs.script.read_script.Goals as goal
 pub returns-clause-script : goal.returns-clause-script
 returns-clause-script c =
     let r = script_view c.in_ok-reader.reader in
-    let read = is_script c.args.variables c.args.outputs c.args.bytes.now r c.in_ok-reader.ensures in
+    let read = c.in_ok-reader.ensures.script in
     subst (λ files. IsScript c.args.variables c.args.outputs (record {
       commands = r.commands;
       names = c.in_ok-names.names.items;
@@ -25,4 +24,4 @@ returns-clause-script c =
 pub returns-clause-within_limit : goal.returns-clause-within_limit
 returns-clause-within_limit c =
     few_commands c.args.variables c.args.outputs c.args.bytes.now (script_view c.in_ok-reader.reader)
-    c.in_ok-reader.ensures
+    c.in_ok-reader.ensures.value

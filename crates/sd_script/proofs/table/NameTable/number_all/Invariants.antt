@@ -1,6 +1,6 @@
-use Rattle.std.proofs.Common.{◌≡◌, ◌≤◌, ◌+◌, length, map, take, List, ℕ, Bor}
+use Rattle.std.proofs.Common.{◌≡◌, ◌≤◌, length, map, take, List, ℕ, Bor}
 use Rattle.sd_script.specs.Scripts.{see_all, number_of_word}
-use Rattle.sd_script.specs.Tables.{table_words, is_marked}
+use Rattle.sd_script.specs.Tables.{table_words}
 use Rattle.sd_script.proofs.table.NameTable.number_all.Given as goal
 
 -- the words so far are among those of the table, with their numbers there
@@ -10,6 +10,5 @@ invariant-loop-word l = record {
       ≡ see_all (table_words l.initial.self) (map (λ (word : Bor (List ℕ)). word.now) (take l.word-index l.words));
   numbers : l.numbers.items ≡ map (number_of_word (table_words l.self))
       (map (λ (word : Bor (List ℕ)). word.now) (take l.word-index l.words));
-  grown : length (table_words l.self) ≤ length (table_words l.initial.self) + l.word-index;
-  marks : (i : ℕ) → is_marked l.self i ≡ is_marked l.initial.self i;
+  grown : length (table_words l.initial.self) ≤ length (table_words l.self);
 }

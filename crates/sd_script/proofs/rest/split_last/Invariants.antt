@@ -1,8 +1,8 @@
 use Rattle.std.proofs.Common.{◌≡◌, ◌≤◌, true, length, map, ◌∷◌, ◌++◌, List, ℕ, Bor}
 use Rattle.std.specs.List.{list_all}
 use Rattle.sd_base.specs.Views.{words_left}
-use Rattle.sd_script.specs.Phrases.{is_name}
-use Rattle.sd_script.proofs.phrase.write_of.Given as goal
+use Rattle.sd_script.specs.Forms.{is_name}
+use Rattle.sd_script.proofs.rest.split_last.Given as goal
 
 -- the names so far, the word in hand and what is left are the words of the line
 abbrev pub invariant-loop-word : goal.invariant-loop-word

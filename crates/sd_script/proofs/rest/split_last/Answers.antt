@@ -2,14 +2,14 @@ use Rattle.std.proofs.Common.{◌≡◌, ℕ, List, [], ◌∷◌, ◌++◌, map
 use Rattle.std.proofs.lemmas.List.{map-append, length-map, length-append}
 use Rattle.std.specs.List.{list_all}
 use Rattle.sd_base.specs.Views.{words_left}
-use Rattle.sd_script.specs.Phrases.{is_name}
-use Rattle.sd_script.proofs.Writing.{no_name, own_name, none_at, none_past, write_at_end, word_more, all_more}
-use Rattle.sd_script.proofs.phrase.write_of.Goals as goal
+use Rattle.sd_script.specs.Forms.{is_name}
+use Rattle.sd_script.proofs.Writing.{no_name, own_name, none_at, none_past, word_more, all_more}
+use Rattle.sd_script.proofs.rest.split_last.Goals as goal
 
 -- there are more than 1,024 names
-pub returns-then-len-eq-MAX_NAMES : goal.returns-then-len-eq-MAX_NAMES
-returns-then-len-eq-MAX_NAMES c =
-    sym (none_past (words_left c.args.words) (map (λ (word : Bor (List ℕ)). word.now) c.loop-word.names.items)
+pub returns-then-len-eq-MAX_NAMES-clause-fault : goal.returns-then-len-eq-MAX_NAMES-clause-fault
+returns-then-len-eq-MAX_NAMES-clause-fault c = λ bad.
+    none_past (words_left c.args.words) (map (λ (word : Bor (List ℕ)). word.now) c.loop-word.names.items)
     c.loop-word.last.now c.in-Some-word.word.now (words_left c.next-in-loop-word.new.self)
     (c.loop-word.invariant.words
     ∙ ap (λ l. map (λ (word : Bor (List ℕ)). word.now) c.loop-word.names.items ++ c.loop-word.last.now ∷ l)
@@ -19,17 +19,17 @@ returns-then-len-eq-MAX_NAMES c =
       length-map c.loop-word.names.items (λ (word : Bor (List ℕ)). word.now),
       c.len.ensures,
       c.if-len-eq-MAX_NAMES.true,
-    )))
+    ))
 
 -- a word before the last is no name
-pub returns-in_default-name_of : goal.returns-in_default-name_of
-returns-in_default-name_of c =
-    sym (none_at (words_left c.args.words) (map (λ (word : Bor (List ℕ)). word.now) c.loop-word.names.items)
+pub returns-in_default-name_of-clause-fault : goal.returns-in_default-name_of-clause-fault
+returns-in_default-name_of-clause-fault c = λ bad.
+    none_at (words_left c.args.words) (map (λ (word : Bor (List ℕ)). word.now) c.loop-word.names.items)
     c.loop-word.last.now c.in-Some-word.word.now (words_left c.next-in-loop-word.new.self)
     (c.loop-word.invariant.words
     ∙ ap (λ l. map (λ (word : Bor (List ℕ)). word.now) c.loop-word.names.items ++ c.loop-word.last.now ∷ l)
     c.in-Some-word.ensures.steps)
-    (no_name c.loop-word.last.now c.in_default-name_of.ensures))
+    (no_name c.loop-word.last.now c.in_default-name_of.ensures)
 
 -- one name more
 pub loop-word-preserved : goal.loop-word-preserved
@@ -61,13 +61,3 @@ loop-word-preserved c =
         c.if-len-eq-MAX_NAMES.false,
       );
     }
-
--- all words were gone over
-pub returns : goal.returns
-returns c =
-    c.write_with.ensures
-    ∙ sym (write_at_end (words_left c.args.words)
-    (map (λ (word : Bor (List ℕ)). word.now) c.loop-word.names.items) c.loop-word.last.now
-    (c.loop-word.invariant.words
-    ∙ ap (λ l. map (λ (word : Bor (List ℕ)). word.now) c.loop-word.names.items ++ c.loop-word.last.now ∷ l)
-    c.in-None.ensures.steps.0))
