@@ -14,13 +14,13 @@ use sd_vtree::VNode;
 
 /// A vtree node whose left child is a leaf: a node there has two halves, one for each value of the leaf's variable.
 #[derive(Clone, Copy, Drop)]
-pub(crate) struct Split {
+pub struct Split {
     /// The left child, which is the leaf.
-    pub(crate) left: VNode,
+    pub left: VNode,
     /// The right child: both halves stand below it.
-    pub(crate) right: VNode,
+    pub right: VNode,
     /// The variable of the leaf.
-    pub(crate) variable: u32,
+    pub variable: u32,
 }
 
 /// Two nodes below a vtree node whose left child is a leaf, by their halves.
@@ -64,9 +64,9 @@ pub(crate) fn both_halves(m: &Manager, fork: &Fork, a: NodeId, b: NodeId) -> Opt
     })
 }
 
-// The children of a fork and the variable of the left one, where that is a leaf.
+/// The children of a fork and the variable of the left one, where that is a leaf.
 #[inline(always)]
-fn split_of(m: &Manager, fork: &Fork) -> Option<Split>
+pub fn split_of(m: &Manager, fork: &Fork) -> Option<Split>
     requires children { IsFork m.now.vtree fork.now }
     requires table { IsTable m.now }
     ensures { IfSome result (λ s. IsSplit m.now.vtree fork.now.node s) }
@@ -128,9 +128,9 @@ pub(crate) fn halves_of(
     literal_halves(m, at, split, node)
 }
 
-// The halves of a decomposition of two elements, of which the first has the variable as its prime.
+/// The halves of a decomposition of two elements at the vtree node, of which the first has the variable as its prime.
 #[inline(always)]
-fn own_halves(m: &Manager, at: VNode, split: &Split, node: NodeId) -> Option<(NodeId, NodeId)>
+pub fn own_halves(m: &Manager, at: VNode, split: &Split, node: NodeId) -> Option<(NodeId, NodeId)>
     requires split { IsSplit m.now.vtree at split.now }
     requires node { IsBelow m.now at node }
     requires code { 2050 ≤ node }
@@ -205,7 +205,7 @@ pub(crate) fn is_same(a: &NodeId, b: &NodeId) -> bool
 
 /// The node of two halves below the right child.
 #[inline(always)]
-pub(crate) fn make_halves(
+pub fn make_halves(
     m: &mut Manager,
     at: VNode,
     split: &Split,
