@@ -7,3 +7,4 @@ pub mod Elements
 pub mod Serving
 pub mod Whole
 pub mod Forgotten
+pub mod ByHalves

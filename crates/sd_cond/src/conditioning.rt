@@ -11,12 +11,17 @@ ghost use Rattle.sd_apply.specs.Places.{IsBelow, HasPlace, IsFork};
 ghost use Rattle.sd_apply.specs.Elements.{AreListedElements};
 ghost use Rattle.sd_apply.specs.Serving.{Serves};
 ghost use Rattle.sd_cond.specs.Calls.{conditioned, AnswersOf, Tells, FixesPairs};
+ghost use Rattle.sd_cond.specs.ByHalves.{IsHalved};
 ghost use Rattle.sd_cond.specs.Kept.{AreAnswers};
 
 use crate::asked::Condition;
+use crate::halved::Halved;
 use crate::kept::KeptAnswers;
 use crate::places::{is_left, is_over};
-use sd_apply::{Fork, Pairs, are_same, compress, elements_of, place_with_children, push};
+use sd_apply::{
+    Fork, Pairs, Split, are_same, compress, elements_of, make_halves, own_halves,
+    place_with_children, push, split_of,
+};
 use sd_cache::Cache;
 use sd_manager::{Manager, NodeId};
 use sd_runs::TakeError;
@@ -93,6 +98,99 @@ pub(crate) fn given_at(
 /// Conditioning at a decomposition, below whose vtree node the variable's leaf stands.
 #[cycle(given)]
 pub(crate) fn given_here(
+    alloc: Global,
+    m: &mut Manager,
+    c: &mut Cache,
+    kept: &mut KeptAnswers,
+    condition: &Condition,
+    fork: &Fork,
+    a: NodeId,
+) -> Result<NodeId, TakeError>
+    requires variable { 1 ≤ condition.now.variable }
+    requires leaf { variable_at m.old.vtree condition.now.leaf ≡ Some condition.now.variable }
+    requires children { IsFork m.old.vtree fork.now }
+    requires over { IsUnder m.old.vtree condition.now.leaf fork.now.node }
+    requires node { IsNodeOf m.old a }
+    requires code { 2050 ≤ a }
+    requires place { (d : Diagram) → ShowsCanonical m.old a d
+        → HasPlace m.old.vtree fork.now.node d }
+    requires knows { AreAnswers m.old
+        (conditioned condition.now.variable condition.now.positive) kept.old }
+    requires serves { Serves c.old m.old }
+    requires table { IsTable m.old }
+    ensures ok { IfOk result (λ r.
+        AnswersOf m.old m.new (conditioned condition.now.variable condition.now.positive) a r) }
+    ensures kept { Extends m.old m.new }
+    ensures grown { GrowsBelow m.old m.new fork.now.node }
+    ensures knows { AreAnswers m.new
+        (conditioned condition.now.variable condition.now.positive) kept.new }
+    ensures serves { Serves c.new m.new }
+    ensures rule { IfErr result (λ e. KeepsRule m.new e) }
+    ensures table { IsTable m.new }
+{
+    if let Some(split) = split_of(m, fork) {
+        if let Some(halves) = own_halves(m, fork.node, &split, a) {
+            let halved = Halved {
+                node: fork.node,
+                split,
+                halves,
+            };
+            return given_halves(alloc, m, c, kept, condition, &halved, a);
+        }
+    }
+    given_elements(alloc, m, c, kept, condition, fork, a)
+}
+
+// The same by the halves, at a vtree node whose left child is a leaf: one of them where that leaf is the variable's,
+// and else the node of both conditioned. It makes no list.
+#[cycle(given)]
+fn given_halves(
+    alloc: Global,
+    m: &mut Manager,
+    c: &mut Cache,
+    kept: &mut KeptAnswers,
+    condition: &Condition,
+    halved: &Halved,
+    a: NodeId,
+) -> Result<NodeId, TakeError>
+    requires variable { 1 ≤ condition.now.variable }
+    requires leaf { variable_at m.old.vtree condition.now.leaf ≡ Some condition.now.variable }
+    requires over { IsUnder m.old.vtree condition.now.leaf halved.now.node }
+    requires halved { IsHalved m.old halved.now a }
+    requires knows { AreAnswers m.old
+        (conditioned condition.now.variable condition.now.positive) kept.old }
+    requires serves { Serves c.old m.old }
+    requires table { IsTable m.old }
+    ensures ok { IfOk result (λ r.
+        AnswersOf m.old m.new (conditioned condition.now.variable condition.now.positive) a r) }
+    ensures kept { Extends m.old m.new }
+    ensures grown { GrowsBelow m.old m.new halved.now.node }
+    ensures knows { AreAnswers m.new
+        (conditioned condition.now.variable condition.now.positive) kept.new }
+    ensures serves { Serves c.new m.new }
+    ensures rule { IfErr result (λ e. KeepsRule m.new e) }
+    ensures table { IsTable m.new }
+{
+    let Split { left, right, .. } = halved.split;
+    let fork = Fork {
+        node: halved.node,
+        left,
+        right,
+    };
+    if is_left(m, condition.leaf, &fork) {
+        if condition.positive {
+            return Ok(halved.halves.0);
+        }
+        return Ok(halved.halves.1);
+    }
+    let first = given_at(alloc, m, c, kept, condition, right, halved.halves.0)?;
+    let second = given_at(alloc, m, c, kept, condition, right, halved.halves.1)?;
+    make_halves(m, halved.node, &halved.split, first, second)
+}
+
+// The same by the elements.
+#[cycle(given)]
+fn given_elements(
     alloc: Global,
     m: &mut Manager,
     c: &mut Cache,

@@ -14,6 +14,7 @@ mod asked;
 mod cached;
 mod conditioning;
 mod forgetting;
+mod halved;
 mod kept;
 mod operations;
 mod places;

@@ -1,20 +1,26 @@
-use Rattle.std.proofs.Common.{◌∙◌, sym, subst, refl, ℕ, ◌+◌, ◌*◌, ◌<◌, false, List, [], ◌∷◌}
+use Rattle.std.proofs.Common.{◌≡◌, ◌∙◌, sym, ap, subst, refl, ℕ, ◌+◌, ◌*◌, ◌<◌, false, not, List, [], ◌∷◌}
 use Rattle.std.proofs.Common.{get_or, arith, rules}
+use Rattle.std.proofs.lemmas.Option.{same_Some}
 use Rattle.std.proofs.lemmas.Result.{IfOk-weaker}
 use Rattle.sd_model.specs.Diagram.{Diagram}
 use Rattle.sd_vtree.specs.Numbered.{IsUnder}
 use Rattle.sd_manager.specs.Shown.{IsPartitionAt, ShowsCanonical}
 use Rattle.sd_apply.specs.Answers.{Compresses}
+use Rattle.sd_apply.specs.Halves.{MakesHalves}
 use Rattle.sd_apply.specs.Places.{width}
 use Rattle.sd_apply.specs.Elements.{AreListedElements, HasList}
 use Rattle.sd_apply.proofs.Trees.{width_positive, left_there, right_there}
-use Rattle.sd_apply.proofs.Listed.{width_on, there_on, children_on, pair_at}
-use Rattle.sd_manager.proofs.Extending.{extends_on}
+use Rattle.sd_apply.proofs.Listed.{width_on, there_on, below_on, children_on, pair_at}
+use Rattle.sd_apply.proofs.JoiningSteps.{first_half, second_half, grows_up}
+use Rattle.sd_apply.proofs.Served.{serves_on}
+use Rattle.sd_manager.proofs.Extending.{extends_self, extends_on}
 use Rattle.sd_apply.proofs.Growing.{grows_both, grows_over}
 use Rattle.sd_apply.proofs.Rows.{prime_below, sub_below, paired_at}
 use Rattle.sd_apply.proofs.Expanding.{own_listed}
 use Rattle.sd_cond.specs.Calls.{conditioned, AnswersOf, FixesPairs}
 use Rattle.sd_cond.proofs.Steps.{left_step, right_step, still}
+use Rattle.sd_cond.proofs.ByHalves.{below_place, half_of, half_given, half_below, apart_leaf, made_given, grown_twice}
+use Rattle.sd_cond.proofs.Answering.{below_each}
 use Rattle.sd_cond.proofs.Answering.{answer_kept, answer_found, answers_on, below_node}
 use Rattle.sd_cond.proofs.Answering.{other_side, place_each, outside_own, tells_on, leaf_on, wider_on}
 use Rattle.sd_cond.proofs.Elements.{pairs_skip, pairs_push, pairs_done, prime_possible, fixed_list}
@@ -78,9 +84,189 @@ given_at-returns-clause-knows t c =
     (answer_found m n c.given_here.ensures.kept f c.args.a c.in_ok-code.code
     (below_node m c.args.at c.args.a c.requires.a) c.in_ok-code.ensures.ok)
 
+-- ---- by halves
+
+pub given_here-own_halves-requires-clause-node : goal.given_here-own_halves-requires-clause-node
+given_here-own_halves-requires-clause-node t c =
+    let f = c.args.fork.now in
+    below_place c.args.m.now c.requires.table f.node f.left f.right c.args.a c.requires.children c.requires.node
+    c.requires.place
+
+pub given_here-given_halves-requires : goal.given_here-given_halves-requires
+given_here-given_halves-requires t c =
+    let m = c.args.m.now in
+    let f = c.args.fork.now in
+    let s = c.in-Some.split in
+    let is = c.in-Some.ensures in
+    let same : ◌≡◌ {A = ℕ × ℕ} (f.left, f.right) (s.left, s.right) =
+    same_Some {A = ℕ × ℕ} (f.left, f.right) (s.left, s.right) (c.requires.children ∙ sym is.children) in
+    let one : width m.vtree f.left + width m.vtree f.right ≡ width m.vtree s.left + width m.vtree s.right =
+    ap (λ (e : ℕ × ℕ). width m.vtree e.0 + width m.vtree e.1) same in
+    let small : 5 * (width m.vtree s.left + width m.vtree s.right) + 2 < t = omega (arith, one, c.decreases) in (
+      small,
+      (
+        c.requires.variable,
+        (
+          c.requires.leaf,
+          (
+            c.requires.over,
+            (
+              record {
+                split = is;
+                below = below_place m c.requires.table f.node f.left f.right c.args.a c.requires.children c.requires.node
+                    c.requires.place;
+                halves = c.in-Some-own_halves.ensures;
+              },
+              (c.requires.knows, (c.requires.serves, c.requires.table)),
+            ),
+          ),
+        ),
+      ),
+    )
+
+pub given_halves-returns-then-condition-clause-ok : goal.given_halves-returns-then-condition-clause-ok
+given_halves-returns-then-condition-clause-ok t c =
+    let m = c.args.m.now in
+    let i = c.requires.table in
+    let k = c.args.condition.now in
+    let h = c.args.halved.now in
+    let r = c.requires.halved in
+    subst (λ n. AnswersOf m m (conditioned k.variable k.positive) c.args.a n)
+    (ap (λ b. half_of b h.halves) c.if-condition.true)
+    (half_given m i h.node h.split.left h.split.right k.leaf k.variable h.split.variable k.positive c.args.a h.halves
+    c.requires.variable r.split c.requires.leaf (c.is_left.ensures.left.over c.if-is_left.true)
+    (c.is_left.ensures.right.apart (ap not c.if-is_left.true)) r.halves
+    (below_each m i h.node c.args.a r.below))
+
+pub given_halves-returns-then-is_left-clause-ok : goal.given_halves-returns-then-is_left-clause-ok
+given_halves-returns-then-is_left-clause-ok t c =
+    let m = c.args.m.now in
+    let i = c.requires.table in
+    let k = c.args.condition.now in
+    let h = c.args.halved.now in
+    let r = c.requires.halved in
+    subst (λ n. AnswersOf m m (conditioned k.variable k.positive) c.args.a n)
+    (ap (λ b. half_of b h.halves) c.if-condition.false)
+    (half_given m i h.node h.split.left h.split.right k.leaf k.variable h.split.variable k.positive c.args.a h.halves
+    c.requires.variable r.split c.requires.leaf (c.is_left.ensures.left.over c.if-is_left.true)
+    (c.is_left.ensures.right.apart (ap not c.if-is_left.true)) r.halves
+    (below_each m i h.node c.args.a r.below))
+
+pub given_halves-given_at-requires-2 : goal.given_halves-given_at-requires-2
+given_halves-given_at-requires-2 t c =
+    let m = c.args.m.now in
+    let n = c.given_at.new.m in
+    let x = c.given_at.ensures.kept in
+    let h = c.args.halved.now in
+    let r = c.requires.halved in
+    let w = h.split.right in
+    let small : 5 * width n.vtree w + 4 < t =
+    omega (arith, width_on m n x w, width_positive m.vtree h.split.left, c.decreases) in (
+      small,
+      (
+        c.requires.variable,
+        (
+          leaf_on m n x c.args.condition.now.leaf c.args.condition.now.variable c.requires.leaf,
+          (
+            subst (λ v. IsUnder v c.args.condition.now.leaf w) (sym x.vtree)
+                (c.is_left.ensures.right.over (ap not c.if-is_left.false)),
+            (
+              below_on m n x w h.halves.1
+                  (second_half m h.node w h.split.variable c.args.a h.halves r.halves r.below),
+              (c.given_at.ensures.knows, c.given_at.ensures.serves),
+            ),
+          ),
+        ),
+      ),
+    )
+
+pub given_halves-returns-in_err-first-clause-grown : goal.given_halves-returns-in_err-first-clause-grown
+given_halves-returns-in_err-first-clause-grown t c =
+    let h = c.args.halved.now in
+    grows_up c.args.m.now c.given_at.new.m c.given_at.ensures.kept c.requires.table.numbered h.node h.split.left
+    h.split.right c.requires.halved.split.children c.given_at.ensures.grown
+
+pub given_halves-returns-in_err-second-clause-grown : goal.given_halves-returns-in_err-second-clause-grown
+given_halves-returns-in_err-second-clause-grown t c =
+    let h = c.args.halved.now in
+    grown_twice c.args.m.now c.given_at.new.m c.given_at-2.new.m c.given_at.ensures.kept c.given_at-2.ensures.kept
+    c.requires.table c.given_at.ensures.table h.node h.split.left h.split.right c.requires.halved.split.children
+    c.given_at.ensures.grown c.given_at-2.ensures.grown
+
+pub given_halves-make_halves-requires-clause-first : goal.given_halves-make_halves-requires-clause-first
+given_halves-make_halves-requires-clause-first t c =
+    let m = c.args.m.now in
+    let k = c.args.condition.now in
+    let h = c.args.halved.now in
+    let r = c.requires.halved in
+    half_below m c.given_at.new.m c.given_at-2.new.m c.requires.table c.given_at.ensures.kept c.given_at-2.ensures.kept
+    h.split.right k.variable k.positive h.halves.0 c.in_ok-first.first c.requires.variable
+    (first_half m h.node h.split.right h.split.variable c.args.a h.halves r.halves r.below) c.in_ok-first.ensures.ok
+
+pub given_halves-make_halves-requires-clause-second : goal.given_halves-make_halves-requires-clause-second
+given_halves-make_halves-requires-clause-second t c =
+    let m = c.args.m.now in
+    let n = c.given_at.new.m in
+    let o = c.given_at-2.new.m in
+    let k = c.args.condition.now in
+    let h = c.args.halved.now in
+    let r = c.requires.halved in
+    half_below n o o c.given_at.ensures.table c.given_at-2.ensures.kept (extends_self o)
+    h.split.right k.variable k.positive h.halves.1 c.in_ok-second.second c.requires.variable
+    (below_on m n c.given_at.ensures.kept h.split.right h.halves.1
+    (second_half m h.node h.split.right h.split.variable c.args.a h.halves r.halves r.below)) c.in_ok-second.ensures.ok
+
+pub given_halves-returns-clause-ok : goal.given_halves-returns-clause-ok
+given_halves-returns-clause-ok t c =
+    let m = c.args.m.now in
+    let i = c.requires.table in
+    let n = c.given_at.new.m in
+    let o = c.given_at-2.new.m in
+    let q = c.make_halves.new.m in
+    let k = c.args.condition.now in
+    let h = c.args.halved.now in
+    let r = c.requires.halved in
+    let f = r.split in
+    let differ = apart_leaf m.vtree i.numbered k.leaf h.split.left k.variable h.split.variable
+    (left_there m.vtree i.numbered h.node h.split.left h.split.right f.children) f.leaf c.requires.leaf
+    (c.is_left.ensures.left.apart c.if-is_left.false) in
+    IfOk-weaker c.make_halves.result
+    (λ z. MakesHalves o q h.split.right h.split.variable c.in_ok-first.first c.in_ok-second.second z)
+    (λ z. AnswersOf m q (conditioned k.variable k.positive) c.args.a z)
+    (λ z made. made_given m n o q c.given_at.ensures.kept c.given_at-2.ensures.kept h.node h.split.right k.variable
+    h.split.variable k.positive c.args.a c.in_ok-first.first c.in_ok-second.second z h.halves c.requires.variable differ
+    r.halves (below_each m i h.node c.args.a r.below) c.in_ok-first.ensures.ok c.in_ok-second.ensures.ok made)
+    c.make_halves.ensures.ok
+
+pub given_halves-returns-clause-kept : goal.given_halves-returns-clause-kept
+given_halves-returns-clause-kept t c =
+    extends_on c.args.m.now c.given_at-2.new.m c.make_halves.new.m
+    (extends_on c.args.m.now c.given_at.new.m c.given_at-2.new.m c.given_at.ensures.kept c.given_at-2.ensures.kept)
+    c.make_halves.ensures.kept
+
+pub given_halves-returns-clause-grown : goal.given_halves-returns-clause-grown
+given_halves-returns-clause-grown t c =
+    let h = c.args.halved.now in
+    grows_both c.args.m.now c.given_at-2.new.m c.make_halves.new.m h.node c.make_halves.ensures.kept
+    (grown_twice c.args.m.now c.given_at.new.m c.given_at-2.new.m c.given_at.ensures.kept c.given_at-2.ensures.kept
+    c.requires.table c.given_at.ensures.table h.node h.split.left h.split.right c.requires.halved.split.children
+    c.given_at.ensures.grown c.given_at-2.ensures.grown)
+    c.make_halves.ensures.grown
+
+pub given_halves-returns-clause-knows : goal.given_halves-returns-clause-knows
+given_halves-returns-clause-knows t c =
+    answers_on c.given_at-2.new.m c.make_halves.new.m c.make_halves.ensures.kept
+    (conditioned c.args.condition.now.variable c.args.condition.now.positive) c.given_at-2.new.kept
+    c.given_at-2.ensures.knows
+
+pub given_halves-returns-clause-serves : goal.given_halves-returns-clause-serves
+given_halves-returns-clause-serves t c =
+    serves_on c.given_at-2.new.c c.given_at-2.new.m c.make_halves.new.m c.make_halves.ensures.kept
+    c.given_at-2.ensures.serves
+
 -- the elements of a decomposition
-pub given_here-given_pairs-requires : goal.given_here-given_pairs-requires
-given_here-given_pairs-requires t c =
+pub given_elements-given_pairs-requires : goal.given_elements-given_pairs-requires
+given_elements-given_pairs-requires t c =
     let m = c.args.m.now in
     let i = c.requires.table in
     let u = c.args.fork.now.left in
@@ -88,7 +274,7 @@ given_here-given_pairs-requires t c =
     let x = c.requires.node in
     let list = own_listed m i c.args.fork.now.node u w c.args.a c.requires.children x.diagram x.is
     (c.requires.place x.diagram x.is) c.requires.code in
-    let small : 4 * (width m.vtree u + width m.vtree w) + 1 < t = omega (arith, c.decreases) in (
+    let small : 5 * (width m.vtree u + width m.vtree w) + 1 < t = omega (arith, c.decreases) in (
       small,
       (
         c.requires.variable,
@@ -108,16 +294,16 @@ given_here-given_pairs-requires t c =
       ),
     )
 
-pub given_here-returns-in_err-pairs-clause-grown : goal.given_here-returns-in_err-pairs-clause-grown
-given_here-returns-in_err-pairs-clause-grown t c =
+pub given_elements-returns-in_err-pairs-clause-grown : goal.given_elements-returns-in_err-pairs-clause-grown
+given_elements-returns-in_err-pairs-clause-grown t c =
     let m = c.args.m.now in
     let n = c.given_pairs.new.m in
     grows_over m n c.given_pairs.ensures.table.numbered c.args.fork.now.node c.args.fork.now.left c.args.fork.now.right
     (children_on m n c.given_pairs.ensures.kept c.args.fork.now.node c.args.fork.now.left c.args.fork.now.right
     c.requires.children) c.given_pairs.ensures.grown
 
-pub given_here-compress-requires-clause-partition : goal.given_here-compress-requires-clause-partition
-given_here-compress-requires-clause-partition t c =
+pub given_elements-compress-requires-clause-partition : goal.given_elements-compress-requires-clause-partition
+given_elements-compress-requires-clause-partition t c =
     let m = c.args.m.now in
     let n = c.given_pairs.new.m in
     let p = c.args.fork.now.node in
@@ -139,8 +325,8 @@ given_here-compress-requires-clause-partition t c =
           (conditioned c.args.condition.now.variable c.args.condition.now.positive x.diagram) h),
     )
 
-pub given_here-returns-then-are_same-clause-ok : goal.given_here-returns-then-are_same-clause-ok
-given_here-returns-then-are_same-clause-ok t c =
+pub given_elements-returns-then-are_same-clause-ok : goal.given_elements-returns-then-are_same-clause-ok
+given_elements-returns-then-are_same-clause-ok t c =
     let m = c.args.m.now in
     let n = c.given_pairs.new.m in
     let f = conditioned c.args.condition.now.variable c.args.condition.now.positive in
@@ -158,16 +344,16 @@ given_here-returns-then-are_same-clause-ok t c =
     c.args.a pairs c.requires.children c.requires.place c.requires.code list
     (sym c.as_slice-fixed.ensures ∙ c.are_same.ensures c.if-are_same.true ∙ own)
 
-pub given_here-returns-then-are_same-clause-grown : goal.given_here-returns-then-are_same-clause-grown
-given_here-returns-then-are_same-clause-grown t c =
+pub given_elements-returns-then-are_same-clause-grown : goal.given_elements-returns-then-are_same-clause-grown
+given_elements-returns-then-are_same-clause-grown t c =
     let m = c.args.m.now in
     let n = c.given_pairs.new.m in
     grows_over m n c.given_pairs.ensures.table.numbered c.args.fork.now.node c.args.fork.now.left c.args.fork.now.right
     (children_on m n c.given_pairs.ensures.kept c.args.fork.now.node c.args.fork.now.left c.args.fork.now.right
     c.requires.children) c.given_pairs.ensures.grown
 
-pub given_here-returns-clause-ok : goal.given_here-returns-clause-ok
-given_here-returns-clause-ok t c =
+pub given_elements-returns-clause-ok : goal.given_elements-returns-clause-ok
+given_elements-returns-clause-ok t c =
     let m = c.args.m.now in
     let n = c.given_pairs.new.m in
     let o = c.compress.new.m in
@@ -188,8 +374,8 @@ given_here-returns-clause-ok t c =
     (subst (λ l. Compresses n o p l r) c.as_slice-fixed.ensures h))
     c.compress.ensures.ok
 
-pub given_here-returns-clause-grown : goal.given_here-returns-clause-grown
-given_here-returns-clause-grown t c =
+pub given_elements-returns-clause-grown : goal.given_elements-returns-clause-grown
+given_elements-returns-clause-grown t c =
     let m = c.args.m.now in
     let n = c.given_pairs.new.m in
     grows_both m n c.compress.new.m c.args.fork.now.node c.compress.ensures.kept
@@ -198,8 +384,8 @@ given_here-returns-clause-grown t c =
     c.requires.children) c.given_pairs.ensures.grown)
     c.compress.ensures.grown
 
-pub given_here-returns-clause-knows : goal.given_here-returns-clause-knows
-given_here-returns-clause-knows t c =
+pub given_elements-returns-clause-knows : goal.given_elements-returns-clause-knows
+given_elements-returns-clause-knows t c =
     answers_on c.given_pairs.new.m c.compress.new.m c.compress.ensures.kept
     (conditioned c.args.condition.now.variable c.args.condition.now.positive) c.given_pairs.new.kept
     c.given_pairs.ensures.knows
@@ -220,7 +406,7 @@ given_primes-given_at-requires t c =
     ) in
     let at = pair_at l i c.index-list-i.result c.index-list-i-in-loop-i.result c.loop-i-test.true in
     let one = paired_at m0 u w l i e c.requires.list c.loop-i-test.true at in
-    let small : 4 * width m.vtree u + 3 < t =
+    let small : 5 * width m.vtree u + 4 < t =
     omega (arith, width_on m0 m x u, width_positive m0.vtree w, c.decreases) in (
       small,
       (
@@ -303,7 +489,7 @@ given_subs-given_at-requires t c =
     ) in
     let at = pair_at l i c.index-list-i.result c.index-list-i-in-loop-i.result c.loop-i-test.true in
     let one = paired_at m0 u w l i e c.requires.list c.loop-i-test.true at in
-    let small : 4 * width m.vtree w + 3 < t =
+    let small : 5 * width m.vtree w + 4 < t =
     omega (arith, width_on m0 m x w, width_positive m0.vtree u, c.decreases) in (
       small,
       (
@@ -361,7 +547,7 @@ given_subs-returns-clause-ok t c =
     c.loop-i-test.false c.loop-i.auto.i-end
 
 -- what is kept of the nodes
-pub given_here-returns-clause-kept : goal.given_here-returns-clause-kept
-given_here-returns-clause-kept t c =
+pub given_elements-returns-clause-kept : goal.given_elements-returns-clause-kept
+given_elements-returns-clause-kept t c =
     extends_on c.args.m.now c.given_pairs.new.m c.compress.new.m c.given_pairs.ensures.kept
     c.compress.ensures.kept
