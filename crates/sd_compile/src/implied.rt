@@ -4,8 +4,8 @@
 // all stay as they are. Here the node is read alone, under the assignments in which all literals of the clause are
 // false: where it is false under each of them, it implies the clause. A decomposition is, where of each element the
 // prime or the sub is. Below a vtree node without leaves of the clause no node that is no constant is, so the way goes
-// along the leaves of the clause alone. What is false on one way only is no matter: the answer that it is not known is
-// always right, and it comes once as many decompositions were read as there are vtree nodes.
+// along the leaves of the clause alone. What is found is not kept, so a node is read again on each way to it: the
+// search ends without an answer once about as many decompositions were read as there are vtree nodes.
 ghost use Rattle.std.specs.Prelude.{◌≡◌, ◌≤◌, ◌<◌, List, Bool, false, length, slice_get, Some, IsTrue};
 ghost use Rattle.sd_model.specs.declared.trees.Operation.TheVariants.{And};
 ghost use Rattle.sd_model.specs.Assignment.{literal_holds};

@@ -48,20 +48,27 @@ pub(crate) fn join_literals(
     join_group(alloc, m, c, between_groups(kind), node, &placed)
 }
 
-// Whether it is found that a clause leaves a node as it is. Where the left child of the vtree's root is a leaf, this is
-// not asked: there one pass costs about as much.
+// Whether it is found that a clause leaves a node as it is. This is asked where the right child of the vtree's root is a
+// leaf: there a join makes a step of an operation at each vtree node down to the leaves of the clause.
 fn stays(m: &Manager, kind: Kind, node: NodeId, placed: &[(u32, i32)]) -> bool
     requires node { IsNodeOf m.now node }
     ensures { IsTrue result → JoinsGroup m.now m.now (outer kind) node placed.now node }
 {
-    let vtree = m.vtree();
-    if right_of_leaf(vtree, vtree.root()).is_some() {
+    if !ends_in_leaf(m.vtree()) {
         return false;
     }
     match kind {
         Kind::Cnf => implies(m, node, placed),
         Kind::Dnf => false,
     }
+}
+
+// Whether the right child of the vtree's root is a leaf.
+fn ends_in_leaf(vtree: &Vtree) -> bool {
+    let Some((_, right)) = vtree.children(vtree.root()) else {
+        return false;
+    };
+    vtree.variable(right).is_some()
 }
 
 // So many literals are joined in one pass on every vtree.
