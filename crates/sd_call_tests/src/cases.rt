@@ -158,20 +158,33 @@ pub(crate) fn pair_and_parity(alloc: Global) -> Result<Case, TakeError> {
         return Err(TakeError::OutOfMemory);
     }
     let pair = both(alloc, &mut m, &mut c, 1, 2)?;
-    let odd = parity(alloc, &mut m, &mut c)?;
+    let odd = parity(alloc, &mut m, &mut c, 58)?;
     Ok(hold_both(m, c, pair, odd)?)
 }
 
-// The exclusive or of the variables 3 to 60, from the last one upwards.
-fn parity(alloc: Global, m: &mut Manager, c: &mut Cache) -> Result<NodeId, TakeError>
+// `1 and 2`, and the exclusive or of the variables 41 to 60. `3 and 5` is there too, and nothing uses it.
+pub(crate) fn parity_and_garbage(alloc: Global) -> Result<Case, TakeError> {
+    let (mut m, mut c) = fresh(alloc, two_beside_the_rest(alloc)?, 1000)?;
+    if m.vtree().variables() != 60 {
+        return Err(TakeError::OutOfMemory);
+    }
+    let _ = both(alloc, &mut m, &mut c, 3, 5)?;
+    let pair = both(alloc, &mut m, &mut c, 1, 2)?;
+    let odd = parity(alloc, &mut m, &mut c, 20)?;
+    Ok(hold_both(m, c, pair, odd)?)
+}
+
+// The exclusive or of so many of the variables up to 60, from the last one upwards.
+fn parity(alloc: Global, m: &mut Manager, c: &mut Cache, count: u32) -> Result<NodeId, TakeError>
     requires sixty { leaves (plain_tree m.old.vtree) ≡ 60 }
+    requires count { count < 60 }
     requires fresh { IsFresh m.old c.old }
     ensures shown { IfOk result (λ r. IsNodeOf m.new r) }
     ensures kept { Extends m.old m.new }
     ensures fresh { IsFresh m.new c.new }
 {
     let mut node = m.constant(false);
-    for index in 0..58u32 {
+    for index in 0..count {
         let variable = 60 - index;
         let literal = m.literal(variable as i32);
         node = xor(alloc, m, c, literal, node)?;

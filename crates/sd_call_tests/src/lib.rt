@@ -25,4 +25,6 @@ mod readers;
 #[cfg(test)]
 mod seen;
 #[cfg(test)]
+mod surviving;
+#[cfg(test)]
 mod tests;
