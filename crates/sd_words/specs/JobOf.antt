@@ -53,6 +53,23 @@ job_of_parsed parsed = record {
 abbrev pub name_of_both : Option Text → Option Text → Option Text
 name_of_both a b = option_and_then (λ (x, y). then_some (bytes_eq x y) x) (option_zip a b)
 
+-- the job, or the text of the first fault of options that have no place beside one another, or none alone
+abbrev pub job_beside : ParsedOptions → Result Job (List ℕ)
+job_beside parsed = do
+  -- `--workers` is not there without `--parts` or `--portfolio`
+  fault_if (has_option parsed (codes "workers")
+      && not (has_option parsed (codes "parts") || has_option parsed (codes "portfolio")))
+      (codes "workers without work")
+  -- none of `--parts`, `--portfolio`, `--aag` and `--check` is there with an option that has no place beside it
+  fault_for (λ word. codes "not with --parts: --" ++ word) (first_beside parsed (codes "parts") refused_by_parts)
+  fault_for (λ word. codes "not with --portfolio: --" ++ word)
+      (first_beside parsed (codes "portfolio") refused_by_portfolio)
+  fault_for (λ word. codes "not with --aag: --" ++ word) (first_beside parsed (codes "aag") refused_by_aag)
+  fault_for (λ word. codes "not with --check: --" ++ word) (first_beside parsed (codes "check") refused_by_check)
+  -- `--check` is not there without `--vtree`
+  fault_if (has_option parsed (codes "check") && not (has_option parsed (codes "vtree"))) (codes "no vtree")
+  Ok (job_of_parsed parsed)
+
 -- The job, or the text of the first fault of the values, as the line of the end has it. Where several options have the
 -- same fault, the first is named.
 unfoldable pub job_from : ParsedOptions → Result Job (List ℕ)
@@ -73,19 +90,8 @@ job_from parsed = do
   fault_if (fails start_of (parsed (codes "start"))) (codes "start unknown")
   -- no name of a file is empty
   fault_for (λ word. codes "empty name: --" ++ word) (find (λ word. option_map_or is_empty (parsed word) false) files)
-  -- `--workers` is not there without `--parts` or `--portfolio`
-  fault_if (has_option parsed (codes "workers")
-      && not (has_option parsed (codes "parts") || has_option parsed (codes "portfolio")))
-      (codes "workers without work")
-  -- none of `--parts`, `--portfolio`, `--aag` and `--check` is there with an option that has no place beside it
-  fault_for (λ word. codes "not with --parts: --" ++ word) (first_beside parsed (codes "parts") refused_by_parts)
-  fault_for (λ word. codes "not with --portfolio: --" ++ word)
-      (first_beside parsed (codes "portfolio") refused_by_portfolio)
-  fault_for (λ word. codes "not with --aag: --" ++ word) (first_beside parsed (codes "aag") refused_by_aag)
-  fault_for (λ word. codes "not with --check: --" ++ word) (first_beside parsed (codes "check") refused_by_check)
-  -- `--check` is not there without `--vtree`
-  fault_if (has_option parsed (codes "check") && not (has_option parsed (codes "vtree"))) (codes "no vtree")
-  Ok (job_of_parsed parsed)
+  -- each stands beside what has to be there, and beside nothing that it is refused with
+  job_beside parsed
 
 -- the same of the words, where `clap` finds nothing wrong with them behind the program's name
 unfoldable pub job_of : List Text → Result Job (List ℕ)
