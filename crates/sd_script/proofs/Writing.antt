@@ -4,7 +4,7 @@ use Rattle.std.proofs.Common.{take, drop, map, refl, ap, sym, ◌∙◌, arith, 
 use Rattle.std.proofs.lemmas.List.{append_assoc}
 use Rattle.std.proofs.lemmas.Bool.Decides.{nat_tests}
 use Rattle.std.proofs.Math.Seq.{take-append-add, take-append_seam}
-use Rattle.std.specs.Prelude.{Option, Some, None, nat_le}
+use Rattle.std.specs.Prelude.{Some, None, nat_le}
 use Rattle.std.specs.Bool.{then_some}
 use Rattle.std.specs.List.{list_all}
 use Rattle.sd_script.specs.declared.command.Action.TheVariants.{Write}

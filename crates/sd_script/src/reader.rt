@@ -1,6 +1,6 @@
 //! The commands of a text, line by line.
 
-ghost use Rattle.std.specs.Prelude.{◌≡◌, ◌+◌, ◌≤◌, ◌<◌, ℕ, true, length, IfOk, OnOk, option_to_list, vec_len};
+ghost use Rattle.std.specs.Prelude.{◌≡◌, ◌≤◌, ◌<◌, ℕ, true, length, OnOk, option_to_list};
 ghost use Rattle.std.specs.List.{list_any, list_all};
 ghost use Rattle.sd_base.specs.Views.{line_view};
 ghost use Rattle.sd_script.specs.Commands.{has, bound, written_files, loads};
@@ -8,7 +8,7 @@ ghost use Rattle.sd_script.specs.Commands as commands;
 ghost use Rattle.sd_script.specs.Read.{IsScript};
 ghost use Rattle.sd_script.specs.Scripts as texts;
 ghost use Rattle.sd_script.specs.Scripts.{Gives, empty};
-ghost use Rattle.sd_script.specs.Tables.{table_words, is_marked};
+ghost use Rattle.sd_script.specs.Tables.{is_marked};
 ghost use Rattle.sd_script.specs.Views.{uses_view};
 
 use crate::command::{Action, Command};
