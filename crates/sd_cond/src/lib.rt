@@ -6,6 +6,9 @@
 //! Primes that forget it would overlap, and be no partition, so there the answer is the disjunction of both
 //! conditionings.
 //!
+//! At a vtree node whose left child is a leaf a node of two elements is conditioned by its halves, without a list: the
+//! answer is one of them where that leaf is the variable's, and else the node of both answers.
+//!
 //! A call visits each node over the leaf at most once for each value of the variable: what it finds stands in a table
 //! of its own (`kept.rt`), and the cache is asked once a call (`cached.rt`).
 #![tactic(auto)]
