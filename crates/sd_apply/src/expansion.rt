@@ -18,6 +18,7 @@ use std::alloc::Global;
 
 /// A node below a vtree node, as elements there: its own where it stands there, and else two or
 /// one made of it.
+#[inline(always)]
 pub(crate) fn expand(
     alloc: Global,
     m: &mut Manager,

@@ -3,7 +3,8 @@
 // A sweep raises the epoch, since an answer about a number that a later node takes over would be a wrong one. But the
 // nodes that it leaves keep their numbers and their lists, so an answer is right behind it if the two numbers that it
 // is about and its own all stand. The table of the computed answers is gone through once, the others are dropped, and
-// what is left is of the new epoch. So no step at nodes that stand is done again because others went.
+// what is left is of the new epoch, so that a step at nodes that stand need not be done again because others went. The
+// clauses say that each answer that is left is right; how many are left stands in none of them.
 ghost use Rattle.std.specs.Prelude.{◌≡◌, ◌+◌, ◌<◌, length, None, IsTrue};
 ghost use Rattle.sd_cache.specs.Entries.{Entries};
 ghost use Rattle.sd_manager.specs.Table.{Table};

@@ -99,8 +99,8 @@ pub(crate) fn deciding_code(operation: Operation) -> Option<u32>
 /// It decides speed alone.
 pub(crate) fn is_neutral(operation: Operation, node: NodeId) -> bool {
     match operation {
-        Operation::And => node.0 == 1,
-        Operation::Or => node.0 == 0,
+        Operation::And => node.is_true(),
+        Operation::Or => node.is_false(),
         Operation::Xor => false,
     }
 }
