@@ -17,7 +17,7 @@ abbrev pub literal_code : ℕ → Bool → ℕ
 literal_code x true = 2 * x
 literal_code x false = 2 * x + 1
 
--- the key of each numbered node: its place and its list of pairs of codes
+-- the key of each numbered node: its place, which is the number of a vtree node, and its list of pairs of codes
 abbrev pub Lookup : Type 0
 Lookup = ℕ → Option (ℕ × List (ℕ × ℕ))
 
