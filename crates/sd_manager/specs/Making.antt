@@ -47,8 +47,8 @@ abbrev pub IsRefusal : Table → ℕ → TakeError → Type 0
 IsRefusal t n (ArenaFull elements) = IsFull t n × (elements ≡ t.extent + n)
 IsRefusal t n OutOfMemory = Unit {0}
 
--- The number passes the bound, and is the extent with the length of some list: at least 2, and at most one element for
--- each constant, each literal and each linked node.
+-- The number passes the bound, and is the extent with a length: at least 2, and at most one element for each constant,
+-- each literal and each linked node. Of those there are at most half of the extent, since each has two elements.
 pub record IsPastBound (t : Table) (elements : ℕ) : Type 0 where
   pub past : t.bound < elements
   pub least : t.extent + 2 ≤ elements

@@ -9,9 +9,11 @@ use Rattle.sd_vtree.specs.NumberedCode.{numbered_code}
 use Rattle.sd_unique.specs.Nodes.{Lists, lists_code, counts_code}
 
 -- A node has a place, which is the number of a vtree node, and a list of pairs of codes. The maps `linked` and
--- `detached` have the nodes by number; a loose run is a list of no node. A root is a number that holds a code. Of the
--- arena the extent, the bound and the number of free runs of each length are seen. Outside a move `moving` is None and
--- there are no detached nodes; a loose run may stay until it is given back.
+-- `detached` have the nodes by number, and `marks` has the mark of each; a loose run is a list of no node. A root is a
+-- number that holds a code. The epoch rises when a node is taken away or the vtree is moved, and `records` is how many
+-- numbers were ever given to nodes. Of the arena the extent, the bound and the number of free runs of each length are
+-- seen. `moving` is the place of a move that is going on. Outside a move it is None and there are no detached nodes; a
+-- loose run may stay until it is given back.
 pub record Table : Type 0 where
   pub vtree : Numbered
   pub linked : FinMap nat_cmp (ℕ × List (ℕ × ℕ))
