@@ -102,7 +102,8 @@ pub record Found : Type 0 where
   pub after : ℕ
   pub rounds : ℕ
 
--- A search of at most so many rounds: it ends with the first round that does not lessen the size, which counts as done.
+-- A search of at most so many rounds: it ends with the first round that does not lessen the size, which counts as
+-- done (`last_round`). Behind one that lessens it, it goes on from the tree which that one left (`further_round`).
 pub data IsSearch (fs : List Expression) (slack : ℕ) : ℕ → Tree → Found → Type 0 where
   no_round : {t : Tree} {n : ℕ} → HasSize fs t n →
       IsSearch fs slack zero t (record { tree = t; before = n; after = n; rounds = zero })
