@@ -167,7 +167,7 @@ circuit_of_lines (first ∷ lines) = do
 unfoldable pub aiger : List ℕ → Result Circuit (List ℕ)
 aiger bytes = circuit_of_lines (numbered_lines bytes)
 
--- ---- what the reader answers, for its contract and for proofs
+-- ---- what a reader answers
 
 -- the text of a fault, after the file's name
 abbrev pub aiger_fault_text : AigerFault → List ℕ
