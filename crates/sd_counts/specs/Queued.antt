@@ -44,10 +44,11 @@ pub record IsStack (next : ℕ → ℕ) (none top : ℕ) (on : ℕ → Bool) : T
 abbrev pub next_of : List Count → ℕ → ℕ
 next_of counts n = (at counts n).next
 
--- a queued number that is not counted may rise, and one that is counted may fall
+-- a number may rise: it is queued, and not counted
 abbrev pub rises : List Count → ℕ → Bool
 rises counts n = (at counts n).is_queued && not (at counts n).is_counted
 
+-- a number may fall: it is queued, and counted
 abbrev pub falls : List Count → ℕ → Bool
 falls counts n = (at counts n).is_queued && (at counts n).is_counted
 
@@ -78,19 +79,22 @@ pub record IsTaken (old new : List Count) (n : ℕ) : Type 0 where
   pub off : now.is_queued ≡ false
   pub settled : IsSettledAt now
 
--- how many numbers are queued, not counted, and counted
+-- how many numbers are queued
 abbrev pub queued_count : List Count → ℕ
 queued_count counts = count_by (λ (c : Count). c.is_queued) counts
 
+-- how many numbers are not counted
 abbrev pub uncounted_count : List Bool → ℕ
 uncounted_count counted = count_by not counted
 
+-- how many numbers are counted
 abbrev pub counted_count : List Bool → ℕ
 counted_count counted = count_by (λ b. b) counted
 
--- what is left to do: each number rises once, and each falls once
+-- what is left to do where numbers rise: each does so once
 abbrev pub rising_work : List Count → ℕ
 rising_work counts = uncounted_count (seen counts 0).counted * (length counts + 1) + queued_count counts
 
+-- what is left to do where numbers fall: each does so once
 abbrev pub falling_work : List Count → ℕ
 falling_work counts = counted_count (seen counts 0).counted * (length counts + 1) + queued_count counts
