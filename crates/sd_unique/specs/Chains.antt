@@ -65,11 +65,12 @@ free_by Free b = Some 0
 free_by Linked b = None
 free_by Detached b = None
 
--- by which rule the records stand, and from which heads the chains begin: from all of them, or from the first alone
+-- by which rule the records stand
 abbrev pub chain_in : Bool → RecordState → ℕ → Option ℕ
 chain_in true = chain_by
 chain_in false = free_by
 
+-- from which heads the chains begin: from all of them, or from the first alone
 abbrev pub heads_in : Bool → List ℕ → List ℕ
 heads_in true heads = heads
 heads_in false heads = take 1 heads
