@@ -12,8 +12,8 @@ use Rattle.sd_vtree.specs.declared.shape.Shape.{Shape}
 use Rattle.sd_vtree.specs.declared.shape.Shape.TheVariants.{Leaf as LeafShape, Inner}
 use Rattle.sd_vtree.specs.Numbered.{Numbered, NumberedLeaf, NumberedNode, number_of, numbers, plain_tree, times}
 use Rattle.sd_vtree.specs.Numbered.{IsNumbered}
-use Rattle.sd_vtree.specs.Stored.{HasShapes, HoldsTree, tree_in, tree_below}
-use Rattle.sd_vtree.specs.Built.{numbered_from, shapes}
+use Rattle.sd_vtree.specs.Stored.{HasShapes, HasSizes, HoldsTree, tree_in, tree_below}
+use Rattle.sd_vtree.specs.Built.{numbered_from, shapes, tree_sizes}
 use Rattle.sd_vtree.proofs.Times.{times_same, times_other, times_append}
 use Rattle.sd_vtree.proofs.Pigeons.{has_variable, variable_in_range, times_range_within, times_range_above}
 use Rattle.sd_vtree.proofs.Pigeons.{range_append}
@@ -133,7 +133,7 @@ numbers_numbered_from b (Node l r) =
     ∙ (sym (range_append b (2 * leaves l - 1) (suc (2 * leaves r - 1))) ∙ ap (range_with_len b) k))))
 
 -- what stands after a prefix
-slice_get_at : (front back : List Shape) (x : Shape) (n : ℕ) → n ≡ length front →
+slice_get_at : {A : Type 0} (front back : List A) (x : A) (n : ℕ) → n ≡ length front →
     slice_get (front ++ x ∷ back) n ≡ Some x
 slice_get_at [] back x n e = ap (λ k. slice_get (x ∷ back) k) e
 slice_get_at (y ∷ front) back x n e = ap (λ k. slice_get (y ∷ (front ++ x ∷ back)) k) e
@@ -170,6 +170,94 @@ stored_between front back b (Node l r) e =
 pub stored_shapes : (t : Tree) → HasShapes (numbered_from 0 t) (shapes (numbered_from 0 t))
 stored_shapes t = subst (λ xs. HasShapes (numbered_from 0 t) xs) (append-nil (shapes (numbered_from 0 t)))
     (stored_between [] [] 0 t refl)
+
+-- the counts of a tree's nodes are as many as its nodes
+pub length_sizes : (b : ℕ) (t : Tree) → length (tree_sizes t) ≡ length (numbers (numbered_from b t))
+length_sizes b (Leaf x) = refl
+length_sizes b (Node l r) =
+    let ls = tree_sizes l in let rs = tree_sizes r in
+    let lt = numbered_from b l in
+    let rt = numbered_from (right_base l b) r in
+    omega (
+      arith,
+      length_sizes b l,
+      length_sizes (right_base l b) r,
+      length-append ls ((length ls + 1 + length rs) ∷ rs),
+      length-append (numbers lt) (position (Node l r) b ∷ numbers rt),
+    )
+
+-- they are one less than twice its leaves
+pub sizes_leaves : (t : Tree) → length (tree_sizes t) + 1 ≡ 2 * leaves t
+sizes_leaves (Leaf x) = omega arith
+sizes_leaves (Node l r) =
+    let ls = tree_sizes l in let rs = tree_sizes r in
+    omega (
+      arith,
+      sizes_leaves l,
+      sizes_leaves r,
+      leaves_node l r,
+      length-append ls ((length ls + 1 + length rs) ∷ rs),
+    )
+
+-- the counts in order are kept for the tree, wherever they stand
+sizes_between : (front back : List ℕ) (b : ℕ) (t : Tree) → b ≡ length front →
+    HasSizes (numbered_from b t) (front ++ (tree_sizes t ++ back))
+sizes_between front back b (Leaf x) e = slice_get_at front back 1 b e
+sizes_between front back b (Node l r) e =
+    let lt = numbered_from b l in
+    let rt = numbered_from (right_base l b) r in
+    let ls = tree_sizes l in let rs = tree_sizes r in
+    let h = length ls + 1 + length rs in
+    let pl = leaves_positive l in
+    let ll = sizes_leaves l in
+    let n : right_base l b - 1 ≡ length (front ++ ls) = omega (arith, length-append front ls) in
+    let m : right_base l b ≡ length ((front ++ ls) ++ h ∷ []) = omega
+    (arith, length-append front ls, length-append (front ++ ls) (h ∷ [])) in
+    let whole : front ++ ((ls ++ h ∷ rs) ++ back) ≡ front ++ (ls ++ (h ∷ (rs ++ back))) =
+    ap (λ xs. front ++ xs) (append_assoc ls (h ∷ rs) back) in
+    let half : front ++ (ls ++ (h ∷ (rs ++ back))) ≡ (front ++ ls) ++ (h ∷ (rs ++ back)) =
+    sym (append_assoc front ls (h ∷ (rs ++ back))) in
+    let last : (front ++ ls) ++ (h ∷ (rs ++ back)) ≡ ((front ++ ls) ++ h ∷ []) ++ (rs ++ back) =
+    sym (append_assoc (front ++ ls) (h ∷ []) (rs ++ back)) in
+    let sum : h ≡ length (numbers lt ++ (right_base l b - 1) ∷ numbers rt) = omega (
+      arith,
+      length_sizes b l,
+      length_sizes (right_base l b) r,
+      length-append (numbers lt) ((right_base l b - 1) ∷ numbers rt),
+    ) in (
+      subst (λ xs. slice_get xs (right_base l b - 1) ≡ Some h) (sym (whole ∙ half))
+          (slice_get_at (front ++ ls) (rs ++ back) h (right_base l b - 1) n) ∙ ap Some sum,
+      subst (λ xs. HasSizes lt xs) (sym whole) (sizes_between front (h ∷ (rs ++ back)) b l e),
+      subst (λ xs. HasSizes rt xs) (sym (whole ∙ (half ∙ last)))
+          (sizes_between ((front ++ ls) ++ h ∷ []) back (right_base l b) r m),
+    )
+
+-- the counts alone are kept for the tree
+pub sized_tree : (t : Tree) (old sizes : List ℕ) → old ≡ [] → sizes ≡ old ++ tree_sizes t →
+    HasSizes (numbered_from 0 t) sizes
+sized_tree t old sizes n e = subst (λ xs. HasSizes (numbered_from 0 t) xs)
+    (append-nil (tree_sizes t) ∙ (ap (λ xs. xs ++ tree_sizes t) (sym n) ∙ sym e))
+    (sizes_between [] [] 0 t refl)
+
+-- the root's count is filled in when both children's counts were added
+pub sizes_added : (old mid after last : List ℕ) (l r t : Tree) (h i a b : ℕ) → t ≡ Node l r → i ≡ length mid →
+    a ≡ length (tree_sizes l) → b ≡ length (tree_sizes r) → mid ≡ old ++ tree_sizes l → after ≡ mid ++ h ∷ [] →
+    last ≡ after ++ tree_sizes r → set last i (a + 1 + b) ≡ old ++ tree_sizes t
+sizes_added old mid after last l r t h i a b et ei ea eb e f g =
+    let ls = tree_sizes l in let rs = tree_sizes r in
+    let v = length ls + 1 + length rs in
+    let k : last ≡ mid ++ h ∷ rs = g ∙ (ap (λ xs. xs ++ rs) f ∙ append_assoc mid (h ∷ []) rs) in
+    let w : a + 1 + b ≡ v = omega arith in
+    let s : set last (length mid) v ≡ mid ++ v ∷ rs = ap (λ xs. set xs (length mid) v) k
+    ∙ set_at mid h rs v (length mid) refl in
+    ap (λ j. set last j (a + 1 + b)) ei
+    ∙ (ap (set last (length mid)) w
+    ∙ (s ∙ (ap (λ xs. xs ++ v ∷ rs) e ∙ (append_assoc old ls (v ∷ rs) ∙ ap (λ u. old ++ tree_sizes u) (sym et)))))
+
+-- there is room for the count where there is room for the tree
+pub room_sizes : (l r t : Tree) (n : ℕ) → t ≡ Node l r → 2 * leaves t < n →
+    length (tree_sizes l) + 1 + length (tree_sizes r) < n
+room_sizes l r t n et h = omega (arith, ap leaves et, leaves_node l r, sizes_leaves l, sizes_leaves r)
 
 -- a shape of two joined lists stands in one of them
 slice_get_cases : (xs ys : List Shape) (k : ℕ) (x : Shape) → slice_get (xs ++ ys) k ≡ Some x →

@@ -10,6 +10,8 @@ pub mod Rotated
 pub mod Movable
 pub mod Ends
 pub mod Swapped
+pub mod Sized
+pub mod Between
 pub mod Sides
 pub mod PlainMoves
 pub mod PlainTrees

@@ -152,13 +152,13 @@ pub turned_some : {kind : Move} {t : Numbered} {n : ℕ} {nodes : List Shape} {p
 turned_some u e = none-some u.result (sym e ∙ u.is)
 
 -- a shape that was set, and the others
-pub slice_get_set_same : (nodes : List Shape) (k : ℕ) (x : Shape) → k < length nodes →
+pub slice_get_set_same : {A : Type 0} (nodes : List A) (k : ℕ) (x : A) → k < length nodes →
     slice_get (set nodes k x) k ≡ Some x
 slice_get_set_same [] k x h = absurd (omega arith)
 slice_get_set_same (y ∷ nodes) zero x h = refl
 slice_get_set_same (y ∷ nodes) (suc k) x h = slice_get_set_same nodes k x (omega arith)
 
-pub slice_get_set_other : (nodes : List Shape) (k j : ℕ) (x : Shape) → j ≢ k →
+pub slice_get_set_other : {A : Type 0} (nodes : List A) (k j : ℕ) (x : A) → j ≢ k →
     slice_get (set nodes k x) j ≡ slice_get nodes j
 slice_get_set_other [] k j x h = refl
 slice_get_set_other (y ∷ nodes) zero zero x h = absurd (h refl)

@@ -1,6 +1,6 @@
 -- A tree in which the subtree with a number was moved.
-use Rattle.std.proofs.Common.{◌≡◌, ℕ, ◌≤◌, List, [], ◌∷◌, ◌++◌, Option, None, Some, refl, sym, ◌∙◌, ap, inl, inr}
-use Rattle.std.proofs.Common.{arith, append_assoc, eq-eqb, ne_eqb, if◌then◌else◌, slice_get}
+use Rattle.std.proofs.Common.{◌≡◌, ℕ, suc, ◌+◌, ◌≤◌, List, [], ◌∷◌, ◌++◌, Option, None, Some, refl, sym, ◌∙◌, ap, inl, inr}
+use Rattle.std.proofs.Common.{arith, append_assoc, length, length-append, eq-eqb, ne_eqb, if◌then◌else◌, slice_get}
 use Rattle.std.specs.Option.{option_map}
 use Rattle.std.proofs.lemmas.Bool.{cases_eq}
 use Rattle.std.proofs.lemmas.List.{append-nil}
@@ -13,7 +13,7 @@ use Rattle.sd_vtree.specs.declared.shape.Shape.TheVariants.{Inner}
 use Rattle.sd_vtree.specs.Numbered.{Numbered, NumberedLeaf, NumberedNode, number_of, numbers}
 use Rattle.sd_vtree.specs.Numbered.{plain_tree, subtree, times}
 use Rattle.sd_vtree.specs.NumberedMoves.{moved_top, moved_number}
-use Rattle.sd_vtree.specs.Stored.{HasShapes}
+use Rattle.sd_vtree.specs.Stored.{HasShapes, HasSizes}
 use Rattle.sd_vtree.proofs.Times.{times_same, times_other, times_node}
 use Rattle.sd_vtree.proofs.Subtrees.{AtMostOnce, once_left, once_right, left_apart, right_apart, Here, Left, Right}
 use Rattle.sd_vtree.proofs.Subtrees.{way, subtree_in, subtree_times}
@@ -33,6 +33,9 @@ pub record Put (kind : Move) (t : Numbered) (n : ℕ) (s s' : Numbered) : Type 0
   pub new_leaf_split : variables (plain_tree result) ≡ first ++ (variables (plain_tree s') ++ last)
   pub stored : (nodes nodes' : List Shape) → HasShapes t nodes → HasShapes s' nodes' →
       ((k : ℕ) → times k (numbers s) ≡ 0 → slice_get nodes' k ≡ slice_get nodes k) → HasShapes result nodes'
+  pub sized : (sizes sizes' : List ℕ) → HasSizes t sizes → HasSizes s' sizes' →
+      length (numbers s') ≡ length (numbers s) →
+      ((k : ℕ) → times k (numbers s) ≡ 0 → slice_get sizes' k ≡ slice_get sizes k) → HasSizes result sizes'
 
 -- a tree is kept where its own nodes are
 pub stored_same : (t : Numbered) (nodes nodes' : List Shape) → HasShapes t nodes →
@@ -42,6 +45,29 @@ stored_same (NumberedNode m l r) nodes nodes' st h = (
   h m (omega (arith, times_node m m (numbers l) (numbers r), times_same m m (numbers r) refl)) ∙ st.0,
   stored_same l nodes nodes' st.1 (λ k p. h k (omega (arith, times_node k m (numbers l) (numbers r)))),
   stored_same r nodes nodes' st.2 (λ k p. h k (omega (arith, times_node k m (numbers l) (numbers r)))),
+)
+
+-- and so are the counts of nodes
+pub sized_same : (t : Numbered) (sizes sizes' : List ℕ) → HasSizes t sizes →
+    ((k : ℕ) → 1 ≤ times k (numbers t) → slice_get sizes' k ≡ slice_get sizes k) → HasSizes t sizes'
+sized_same (NumberedLeaf m x) sizes sizes' st h = h m (omega (arith, times_same m m [] refl)) ∙ st
+sized_same (NumberedNode m l r) sizes sizes' st h = (
+  h m (omega (arith, times_node m m (numbers l) (numbers r), times_same m m (numbers r) refl)) ∙ st.0,
+  sized_same l sizes sizes' st.1 (λ k p. h k (omega (arith, times_node k m (numbers l) (numbers r)))),
+  sized_same r sizes sizes' st.2 (λ k p. h k (omega (arith, times_node k m (numbers l) (numbers r)))),
+)
+
+-- lists that differ in a part of one length have one length
+same_length : (xs ys front part part' back : List ℕ) → xs ≡ front ++ (part ++ back) → ys ≡ front ++ (part' ++ back) →
+    length part' ≡ length part → length xs ≡ length ys
+same_length xs ys front part part' back e f h = omega (
+  arith,
+  ap length e,
+  ap length f,
+  length-append front (part ++ back),
+  length-append front (part' ++ back),
+  length-append part back,
+  length-append part' back,
 )
 
 -- a number that is not there is not moved
@@ -119,6 +145,7 @@ put kind (NumberedNode m l r) n s s' o e f g = elim (way m l r n s e) [
     leaf_split = ap (λ u. variables (plain_tree u)) k ∙ sym (append-nil (variables (plain_tree s)));
     new_leaf_split = sym (append-nil (variables (plain_tree s')));
     stored = λ nodes nodes' st st' same. st';
+    sized = λ sizes sizes' st st' e same. st';
   }
   | Left d k ↦ (let p = put kind l n s s' (once_left m l r o) k f g in
       record {
@@ -147,6 +174,15 @@ put kind (NumberedNode m l r) n s s' o e f g = elim (way m l r n s e) [
           stored_same r nodes nodes' st.2
               (λ i q. same i (let a = right_apart m l r o i q in let b = subtree_times l n s k i in omega arith)),
         );
+        sized = λ sizes sizes' st st' h same. (
+          same m (outside_left m l r s n o k) ∙ (st.0 ∙ ap Some (length-append (numbers l) (m ∷ numbers r)
+              ∙ (ap (λ i. i + length (m ∷ numbers r))
+              (same_length (numbers l) (numbers p.result) p.front (numbers s) (numbers s') p.back p.split p.new_split h)
+              ∙ sym (length-append (numbers p.result) (m ∷ numbers r))))),
+          p.sized sizes sizes' st.1 st' h same,
+          sized_same r sizes sizes' st.2
+              (λ i q. same i (let a = right_apart m l r o i q in let b = subtree_times l n s k i in omega arith)),
+        );
       })
   | Right d z k ↦ (let p = put kind r n s s' (once_right m l r o) k f g in
       record {
@@ -171,6 +207,15 @@ put kind (NumberedNode m l r) n s s' o e f g = elim (way m l r n s e) [
           stored_same l nodes nodes' st.1
               (λ i q. same i (let a = left_apart m l r o i q in let b = subtree_times r n s k i in omega arith)),
           p.stored nodes nodes' st.2 st' same,
+        );
+        sized = λ sizes sizes' st st' h same. (
+          same m (outside_right m l r s n o k) ∙ (st.0 ∙ ap Some (length-append (numbers l) (m ∷ numbers r)
+              ∙ (ap (λ i. length (numbers l) + suc i)
+              (same_length (numbers r) (numbers p.result) p.front (numbers s) (numbers s') p.back p.split p.new_split h)
+              ∙ sym (length-append (numbers l) (m ∷ numbers p.result))))),
+          sized_same l sizes sizes' st.1
+              (λ i q. same i (let a = left_apart m l r o i q in let b = subtree_times r n s k i in omega arith)),
+          p.sized sizes sizes' st.2 st' h same,
         );
       })
 ]

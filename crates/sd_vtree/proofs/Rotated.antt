@@ -84,14 +84,14 @@ rotated {kind} {nodes} {positions} {order} {leaf_list} {t} kept n l s s' p h is 
     number_in s n z = subst (λ k. 1 ≤ times k (numbers s)) (subtree_number t n s z) (number_of_in s)
 
 -- the numbers below a child are among those of its node
-below_left : (l : ℕ) (a b : Numbered) (k : ℕ) → 1 ≤ times k (numbers a) → 1 ≤ times k (numbers (NumberedNode l a b))
+pub below_left : (l : ℕ) (a b : Numbered) (k : ℕ) → 1 ≤ times k (numbers a) → 1 ≤ times k (numbers (NumberedNode l a b))
 below_left l a b k h = omega (arith, times_node k l (numbers a) (numbers b))
 
-below_right : (l : ℕ) (a b : Numbered) (k : ℕ) → 1 ≤ times k (numbers b) → 1 ≤ times k (numbers (NumberedNode l a b))
+pub below_right : (l : ℕ) (a b : Numbered) (k : ℕ) → 1 ≤ times k (numbers b) → 1 ≤ times k (numbers (NumberedNode l a b))
 below_right l a b k h = omega (arith, times_node k l (numbers a) (numbers b))
 
 -- a number is not both in a list and absent
-not_in : (k l : ℕ) (xs : List ℕ) → k ≡ l → times k xs ≡ 0 → 1 ≤ times l xs → ⊥
+pub not_in : (k l : ℕ) (xs : List ℕ) → k ≡ l → times k xs ≡ 0 → 1 ≤ times l xs → ⊥
 not_in k l xs x z y = let r : times l xs ≡ 0 = subst (λ i. times i xs ≡ 0) x z in omega arith
 
 -- the right rotation: p has the lower node and the right child, q the lower node's children

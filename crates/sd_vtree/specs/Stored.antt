@@ -1,5 +1,6 @@
 -- How a numbered vtree is kept in vectors.
-use Rattle.std.specs.Prelude.{◌≡◌, ℕ, zero, suc, ◌+◌, ◌<◌, List, length, Option, Some, None, slice_get, slice_index}
+use Rattle.std.specs.Prelude.{◌≡◌, ℕ, zero, suc, ◌+◌, ◌<◌, List, ◌∷◌, ◌++◌, length, Option, Some, None, slice_get}
+use Rattle.std.specs.Prelude.{slice_index}
 use Rattle.sd_model.specs.Tree.{leaves}
 use Rattle.sd_vtree.specs.declared.shape.Shape.{Shape}
 use Rattle.sd_vtree.specs.declared.shape.Shape.TheVariants.{Leaf, Inner}
@@ -26,6 +27,12 @@ tree_below read n (Some (Inner l r)) = NumberedNode n (read l) (read r)
 unfoldable pub tree_in : ℕ → List Shape → ℕ → Numbered
 tree_in zero nodes n = NumberedLeaf n 0
 tree_in (suc k) nodes n = tree_below (tree_in k nodes) n (slice_get nodes n)
+
+-- how many nodes stand at or below each node is kept at its number
+abbrev pub HasSizes : Numbered → List ℕ → Type 0
+HasSizes (NumberedLeaf n x) sizes = slice_get sizes n ≡ Some 1
+HasSizes (NumberedNode n l r) sizes =
+    (slice_get sizes n ≡ Some (length (numbers l ++ n ∷ numbers r))) × HasSizes l sizes × HasSizes r sizes
 
 -- the vectors hold this tree
 pub record HoldsTree (nodes : List Shape) (positions order leaf_list : List ℕ) (t : Numbered) : Type 0 where

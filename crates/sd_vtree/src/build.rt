@@ -4,7 +4,7 @@ ghost use Rattle.std.specs.Prelude.{◌≡◌, ℕ, ◌+◌, ◌-◌, ◌*◌, �
 ghost use Rattle.std.specs.List.{range_with_len};
 ghost use Rattle.sd_model.specs.Seen.{tree_of};
 ghost use Rattle.sd_model.specs.Tree.{leaves, position};
-ghost use Rattle.sd_vtree.specs.Built.{numbered_from, shapes};
+ghost use Rattle.sd_vtree.specs.Built.{numbered_from, shapes, tree_sizes};
 ghost use Rattle.sd_vtree.specs.declared.shape.Shape.TheVariants.{Leaf};
 
 use crate::shape::{Shape, VNode};
@@ -32,6 +32,31 @@ pub(crate) fn add_nodes(tree: &Tree, nodes: &mut Vec<Shape>) -> Result<VNode, Al
             let right = add_nodes(right, nodes)?;
             nodes[number.index()] = Shape::Inner(left, right);
             Ok(number)
+        }
+    }
+}
+
+// Adds for each node of a tree, in order, how many nodes stand at or below it, and gives that number for the root.
+pub(crate) fn add_sizes(tree: &Tree, sizes: &mut Vec<u32>) -> Result<u32, AllocError>
+    requires { 2 * leaves (tree_of tree.now) < 2 ^ 32 }
+    ensures count { IfOk result (λ n. n ≡ length (tree_sizes (tree_of tree.now))) }
+    ensures sizes { IfOk result (λ _. sizes.new.items ≡
+        sizes.old.items ++ tree_sizes (tree_of tree.now)) }
+{
+    match tree {
+        Tree::Leaf(_) => {
+            sizes.push(1)?;
+            Ok(1)
+        }
+        Tree::Node(left, right) => {
+            let before = add_sizes(left, sizes)?;
+            let place = sizes.len();
+            // The place is kept until the nodes below the right child are counted.
+            sizes.push(before)?;
+            let after = add_sizes(right, sizes)?;
+            let count = before + 1 + after;
+            sizes[place] = count;
+            Ok(count)
         }
     }
 }

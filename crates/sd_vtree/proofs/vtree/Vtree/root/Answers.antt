@@ -9,7 +9,7 @@ returns-clause-root c = sym (number_of_tree_in _ _ c.self.inside.root) ∙ ap nu
 
 pub returns-clause-node : goal.returns-clause-node
 returns-clause-node c =
-    let kept = kept_as c.self.invariant c.self.view_is in
+    let kept = kept_as c.self.invariant.0 c.self.view_is in
     let e = sym (number_of_tree_in _ _ c.self.inside.root) ∙ ap number_of c.self.view_is in
     node_within c.args.self.now kept.valid c.self.inside.root
     (subst (λ n. 1 ≤ times n (numbers c.args.self.now)) (sym e) (number_of_in c.args.self.now))

@@ -1,8 +1,10 @@
-use Rattle.std.proofs.Common.{◌≡◌, ◌∙◌, ◌+◌, ap, sym, refl, arith, length}
+use Rattle.std.proofs.Common.{subst, ◌≡◌, ◌∙◌, ◌+◌, ap, sym, refl, arith, length}
 use Rattle.std.proofs.lemmas.List.{with_items_is}
 use Rattle.std.proofs.lemmas.Bool.{false≢true}
 use Rattle.sd_model.specs.declared.trees.Move.TheVariants.{Swap}
 use Rattle.sd_vtree.specs.Numbered.{numbers}
+use Rattle.sd_vtree.specs.Stored.{HasSizes}
+use Rattle.sd_vtree.proofs.Sized.{sized_swap}
 use Rattle.sd_vtree.proofs.Reading.{kept_as}
 use Rattle.sd_vtree.proofs.Times.{smaller}
 use Rattle.sd_vtree.proofs.Moved.{view_root, turned_kept, turned_moved, turned_count, turned_numbered, turned_some}
@@ -21,7 +23,7 @@ returns-in_default-clause-not_movable c = (
 
 pub exchange_sides-requires : goal.exchange_sides-requires
 exchange_sides-requires c =
-    let kept = kept_as c.self.invariant c.self.view_is in
+    let kept = kept_as c.self.invariant.0 c.self.view_is in
     let s = sides c.children.ensures.numbered c.in-Some.ensures.children c.position-position.result
     c.first_below-from.result c.last_below.result
     c.position-position.ensures.position c.first_below-from.ensures c.last_below.ensures in
@@ -34,7 +36,7 @@ exchange_sides-requires c =
 
 pub write_positions-requires-clause-order : goal.write_positions-requires-clause-order
 write_positions-requires-clause-order c =
-    let kept = kept_as c.self.invariant c.self.view_is in
+    let kept = kept_as c.self.invariant.0 c.self.view_is in
     let s = sides c.children.ensures.numbered c.in-Some.ensures.children c.position-position.result
     c.first_below-from.result c.last_below.result
     c.position-position.ensures.position c.first_below-from.ensures c.last_below.ensures in
@@ -43,7 +45,7 @@ write_positions-requires-clause-order c =
 
 pub write_positions-requires-clause-within : goal.write_positions-requires-clause-within
 write_positions-requires-clause-within c =
-    let kept = kept_as c.self.invariant c.self.view_is in
+    let kept = kept_as c.self.invariant.0 c.self.view_is in
     let s = sides c.children.ensures.numbered c.in-Some.ensures.children c.position-position.result
     c.first_below-from.result c.last_below.result
     c.position-position.ensures.position c.first_below-from.ensures c.last_below.ensures in
@@ -58,7 +60,7 @@ write_positions-requires-clause-within c =
 
 pub write_positions-requires-clause-fits : goal.write_positions-requires-clause-fits
 write_positions-requires-clause-fits c =
-    let kept = kept_as c.self.invariant c.self.view_is in
+    let kept = kept_as c.self.invariant.0 c.self.view_is in
     let s = sides c.children.ensures.numbered c.in-Some.ensures.children c.position-position.result
     c.first_below-from.result c.last_below.result
     c.position-position.ensures.position c.first_below-from.ensures c.last_below.ensures in
@@ -73,7 +75,7 @@ write_positions-requires-clause-fits c =
 
 pub write_positions-requires-clause-nodes : goal.write_positions-requires-clause-nodes
 write_positions-requires-clause-nodes c = λ p h.
-    let kept = kept_as c.self.invariant c.self.view_is in
+    let kept = kept_as c.self.invariant.0 c.self.view_is in
     let s = sides c.children.ensures.numbered c.in-Some.ensures.children c.position-position.result
     c.first_below-from.result c.last_below.result
     c.position-position.ensures.position c.first_below-from.ensures c.last_below.ensures in
@@ -89,7 +91,7 @@ write_positions-requires-clause-nodes c = λ p h.
 
 pub write_positions-requires-clause-apart : goal.write_positions-requires-clause-apart
 write_positions-requires-clause-apart c = λ p q x y.
-    let kept = kept_as c.self.invariant c.self.view_is in
+    let kept = kept_as c.self.invariant.0 c.self.view_is in
     let s = sides c.children.ensures.numbered c.in-Some.ensures.children c.position-position.result
     c.first_below-from.result c.last_below.result
     c.position-position.ensures.position c.first_below-from.ensures c.last_below.ensures in
@@ -103,7 +105,7 @@ write_positions-requires-clause-apart c = λ p q x y.
 
 pub invariant_of-self : goal.invariant_of-self
 invariant_of-self c =
-    let kept = kept_as c.self.invariant c.self.view_is in
+    let kept = kept_as c.self.invariant.0 c.self.view_is in
     let s = sides c.children.ensures.numbered c.in-Some.ensures.children c.position-position.result
     c.first_below-from.result c.last_below.result
     c.position-position.ensures.position c.first_below-from.ensures c.last_below.ensures in
@@ -122,11 +124,15 @@ invariant_of-self c =
     c.self.inside.positions.items c.first_below-from.result (c.last_below.result + 1) d z
     c.deref_mut-2.ensures.value c.write_positions.ensures.outside) in
     let r = view_root _ _ c.self.inside.root c.self.view_is in
-    turned_kept u c.self.inside.root r
+    let st = subst (λ t. HasSizes t c.self.inside.sizes.items) c.self.view_is c.self.invariant.1 in (
+      turned_kept u c.self.inside.root r,
+      sized_swap c.self.inside.sizes.items kept.valid st c.args.node c.in-Some.ensures.children _
+          (turned_moved u c.self.inside.root r),
+    )
 
 pub returns : goal.returns
 returns c =
-    let kept = kept_as c.self.invariant c.self.view_is in
+    let kept = kept_as c.self.invariant.0 c.self.view_is in
     let s = sides c.children.ensures.numbered c.in-Some.ensures.children c.position-position.result
     c.first_below-from.result c.last_below.result
     c.position-position.ensures.position c.first_below-from.ensures c.last_below.ensures in
