@@ -101,7 +101,7 @@ fn look_up_or_apply(
     }
     let over = lca_with_children(m, at, a, b).node;
     let mut recent = Recent::lent(alloc, m, c);
-    let found = apply(alloc, m, &mut recent, operation, over, a, b);
+    let found = apply(m, &mut recent, operation, over, a, b);
     recent.give_back(m, c);
     let code = found?;
     // an answer that is not kept is found again
@@ -138,7 +138,7 @@ pub(crate) fn negate_cached(
     }
     let over = place_with_children(m, at, a).node;
     let mut recent = Recent::lent(alloc, m, c);
-    let found = negate_at(alloc, m, &mut recent, over, a);
+    let found = negate_at(m, &mut recent, over, a);
     recent.give_back(m, c);
     let code = found?;
     keep_opposites(m, c, a, code);

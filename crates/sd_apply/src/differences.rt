@@ -103,7 +103,7 @@ fn look_up_or_subtract(
     }
     let over = lca_with_children(m, at, a, b).node;
     let mut recent = Recent::lent(alloc, m, c);
-    let found = subtract_at(alloc, m, &mut recent, over, a, b);
+    let found = subtract_at(m, &mut recent, over, a, b);
     recent.give_back(m, c);
     let code = found?;
     // an answer that is not kept is found again

@@ -14,13 +14,11 @@ use crate::places::{Fork, place_of};
 use crate::recent::Recent;
 use sd_manager::{Manager, NodeId};
 use sd_runs::TakeError;
-use std::alloc::Global;
 
 /// A node below a vtree node, as elements there: its own where it stands there, and else two or
 /// one made of it.
 #[inline(always)]
 pub(crate) fn expand(
-    alloc: Global,
     m: &mut Manager,
     recent: &mut Recent,
     fork: &Fork,
@@ -42,13 +40,13 @@ pub(crate) fn expand(
     let place = fork.node;
     let own = place_of(m, a);
     if own.0 == place.0 {
-        return elements_of(alloc, m, a);
+        return elements_of(recent.alloc, m, a);
     }
     let middle = m.vtree().position(place);
     let at = m.vtree().position(own);
     if middle < at {
-        return below_right(alloc, a);
+        return below_right(recent.alloc, a);
     }
-    let other = negate_at(alloc, m, recent, fork.left, a)?;
-    below_left(alloc, a, other)
+    let other = negate_at(m, recent, fork.left, a)?;
+    below_left(recent.alloc, a, other)
 }

@@ -80,7 +80,7 @@ pub fn join_group(
     let recent = Recent::lent(alloc, m, c);
     let found = NodeAnswers::new(alloc);
     let mut tables = Tables { recent, found };
-    let joined = join_from(alloc, m, &mut tables, operation, over, node, literals, 0);
+    let joined = join_from(m, &mut tables, operation, over, node, literals, 0);
     let Tables { recent, found: _ } = tables;
     recent.give_back(m, c);
     joined
@@ -152,7 +152,6 @@ fn leaf_of(m: &Manager, literals: &[(u32, i32)], index: usize) -> VNode
 #[cycle(join)]
 #[inline(always)]
 fn join_from(
-    alloc: Global,
     m: &mut Manager,
     tables: &mut Tables,
     operation: Operation,
@@ -187,13 +186,12 @@ fn join_from(
             return Ok(NodeId(code));
         }
     }
-    join_below(alloc, m, tables, operation, at, node, literals, from)
+    join_below(m, tables, operation, at, node, literals, from)
 }
 
 // The same where some literals are left, and where no answer is kept.
 #[cycle(join)]
 fn join_below(
-    alloc: Global,
     m: &mut Manager,
     tables: &mut Tables,
     operation: Operation,
@@ -220,11 +218,13 @@ fn join_below(
 {
     let lower = lower_right(m, at, node, literals, from);
     let shared = is_shared(m, lower, node);
-    let code = join_at(alloc, m, tables, operation, lower, node, literals, from)?;
+    let code = join_at(m, tables, operation, lower, node, literals, from)?;
     if !shared {
         return Ok(code);
     }
-    tables.found.keep(alloc, node.0, from + 1, code.0);
+    tables
+        .found
+        .keep(tables.recent.alloc, node.0, from + 1, code.0);
     Ok(code)
 }
 
@@ -242,7 +242,6 @@ fn is_shared(m: &Manager, at: VNode, node: NodeId) -> bool
 #[cycle(join)]
 #[inline(always)]
 fn join_at(
-    alloc: Global,
     m: &mut Manager,
     tables: &mut Tables,
     operation: Operation,
@@ -269,10 +268,10 @@ fn join_at(
 {
     let Some(found) = halves_at(m, at, node, literals, from) else {
         let recent = &mut tables.recent;
-        return join_by_node(alloc, m, recent, operation, at, node, literals, from);
+        return join_by_node(m, recent, operation, at, node, literals, from);
     };
     let (split, halves) = (&found.0, &found.1);
-    let joined = join_halves(alloc, m, tables, operation, split, halves, literals, from)?;
+    let joined = join_halves(m, tables, operation, split, halves, literals, from)?;
     if is_same(&joined.0, &halves.0) && is_same(&joined.1, &halves.1) {
         return Ok(node);
     }
@@ -284,7 +283,6 @@ fn join_at(
 #[cycle(join)]
 #[inline(always)]
 fn join_halves(
-    alloc: Global,
     m: &mut Manager,
     tables: &mut Tables,
     operation: Operation,
@@ -315,23 +313,22 @@ fn join_halves(
     let one = halves.0;
     let other = halves.1;
     if literal.unsigned_abs() != split.variable {
-        let first = join_from(alloc, m, tables, operation, right, one, literals, from)?;
-        let second = join_from(alloc, m, tables, operation, right, other, literals, from)?;
+        let first = join_from(m, tables, operation, right, one, literals, from)?;
+        let second = join_from(m, tables, operation, right, other, literals, from)?;
         return Ok((first, second));
     }
     let next = from + 1;
     if (literal > 0) == deciding_value(operation) {
-        let first = join_from(alloc, m, tables, operation, right, one, literals, next)?;
+        let first = join_from(m, tables, operation, right, one, literals, next)?;
         Ok((first, other))
     } else {
-        let second = join_from(alloc, m, tables, operation, right, other, literals, next)?;
+        let second = join_from(m, tables, operation, right, other, literals, next)?;
         Ok((one, second))
     }
 }
 
 // The same by the node of the literals.
 fn join_by_node(
-    alloc: Global,
     m: &mut Manager,
     recent: &mut Recent,
     operation: Operation,
@@ -354,13 +351,12 @@ fn join_by_node(
     ensures rule { IfErr result (λ e. KeepsRule m.new e) }
     ensures table { IsTable m.new }
 {
-    let group = literals_node(alloc, m, recent, operation, at, literals, from)?;
-    apply(alloc, m, recent, operation, at, node, group)
+    let group = literals_node(m, recent, operation, at, literals, from)?;
+    apply(m, recent, operation, at, node, group)
 }
 
 // The node of the literals from an index on, joined from the last to the first.
 fn literals_node(
-    alloc: Global,
     m: &mut Manager,
     recent: &mut Recent,
     operation: Operation,
@@ -386,15 +382,7 @@ fn literals_node(
     while from < index {
         index -= 1;
         let literal = m.literal(literal_at(literals, index).1);
-        node = apply(
-            alloc,
-            m,
-            recent,
-            between_literals(operation),
-            at,
-            literal,
-            node,
-        )?;
+        node = apply(m, recent, between_literals(operation), at, literal, node)?;
     }
     Ok(node)
 }

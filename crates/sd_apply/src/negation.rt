@@ -21,12 +21,10 @@ use sd_manager::{Manager, NodeId};
 use sd_runs::TakeError;
 use sd_vtree::VNode;
 use smallvec::SmallVec;
-use std::alloc::Global;
 
 /// The negation of a node below a vtree node.
 #[inline(never)]
 pub(crate) fn negate_at(
-    alloc: Global,
     m: &mut Manager,
     recent: &mut Recent,
     at: VNode,
@@ -44,14 +42,13 @@ pub(crate) fn negate_at(
     ensures rule { IfErr result (λ e. KeepsRule m.new e) }
     ensures table { IsTable m.new }
 {
-    find_or_negate(alloc, m, recent, at, a)
+    find_or_negate(m, recent, at, a)
 }
 
 // The same in place, so that what is known is found without a call.
 #[cycle(negate)]
 #[inline(always)]
 fn find_or_negate(
-    alloc: Global,
     m: &mut Manager,
     recent: &mut Recent,
     at: VNode,
@@ -77,14 +74,13 @@ fn find_or_negate(
     if let Some(code) = recent.look(NEGATION, a.0, 0) {
         return Ok(NodeId(code));
     }
-    negate_anew(alloc, m, recent, at, a)
+    negate_anew(m, recent, at, a)
 }
 
 // The negation of a decomposition, which is not known, and is kept.
 #[cycle(negate)]
 #[inline(never)]
 fn negate_anew(
-    alloc: Global,
     m: &mut Manager,
     recent: &mut Recent,
     at: VNode,
@@ -103,8 +99,8 @@ fn negate_anew(
     ensures rule { IfErr result (λ e. KeepsRule m.new e) }
     ensures table { IsTable m.new }
 {
-    let code = negate_elements(alloc, m, recent, at, a)?;
-    recent.keep(alloc, NEGATION, a.0, 0, code.0);
+    let code = negate_elements(m, recent, at, a)?;
+    recent.keep(NEGATION, a.0, 0, code.0);
     Ok(code)
 }
 
@@ -112,7 +108,6 @@ fn negate_anew(
 // none are joined.
 #[cycle(negate)]
 fn negate_elements(
-    alloc: Global,
     m: &mut Manager,
     recent: &mut Recent,
     at: VNode,
@@ -135,11 +130,11 @@ fn negate_elements(
     if are_two(m, a) {
         let (prime, sub) = m.element(a, 0);
         let (other, value) = m.element(a, 1);
-        let negated = negate_both(alloc, m, recent, fork.right, sub, value)?;
+        let negated = negate_both(m, recent, fork.right, sub, value)?;
         return make_apart(m, &fork, &[(prime, negated.0), (other, negated.1)]);
     }
-    let list = elements_of(alloc, m, a)?;
-    let pairs = negate_subs(alloc, m, recent, &fork, list.as_slice())?;
+    let list = elements_of(recent.alloc, m, a)?;
+    let pairs = negate_subs(m, recent, &fork, list.as_slice())?;
     make_apart(m, &fork, pairs.as_slice())
 }
 
@@ -147,7 +142,6 @@ fn negate_elements(
 #[cycle(negate)]
 #[inline(always)]
 fn negate_both(
-    alloc: Global,
     m: &mut Manager,
     recent: &mut Recent,
     at: VNode,
@@ -166,15 +160,14 @@ fn negate_both(
     ensures rule { IfErr result (λ e. KeepsRule m.new e) }
     ensures table { IsTable m.new }
 {
-    let first = find_or_negate(alloc, m, recent, at, a)?;
-    let second = find_or_negate(alloc, m, recent, at, b)?;
+    let first = find_or_negate(m, recent, at, a)?;
+    let second = find_or_negate(m, recent, at, b)?;
     Ok((first, second))
 }
 
 // The elements with their subs negated.
 #[cycle(negate)]
 fn negate_subs(
-    alloc: Global,
     m: &mut Manager,
     recent: &mut Recent,
     fork: &Fork,
@@ -192,10 +185,10 @@ fn negate_subs(
     ensures rule { IfErr result (λ e. KeepsRule m.new e) }
     ensures table { IsTable m.new }
 {
-    let mut pairs = SmallVec::new(alloc);
+    let mut pairs = SmallVec::new(recent.alloc);
     for i in 0..list.len() {
         let (prime, sub) = list[i];
-        let other = find_or_negate(alloc, m, recent, fork.right, sub)?;
+        let other = find_or_negate(m, recent, fork.right, sub)?;
         push(&mut pairs, prime, other)?;
     }
     Ok(pairs)

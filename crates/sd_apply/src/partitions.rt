@@ -60,7 +60,7 @@ pub fn expand_at(
     if middle < at {
         return below_right(alloc, a);
     }
-    let other = negate_at(alloc, m, recent, children.0, a)?;
+    let other = negate_at(m, recent, children.0, a)?;
     below_left(alloc, a, other)
 }
 
@@ -94,7 +94,7 @@ pub fn multiply_at(
         left: children.0,
         right: children.1,
     };
-    multiply(alloc, m, recent, operation, &fork, first, second)
+    multiply(m, recent, operation, &fork, first, second)
 }
 
 /// A partition of a vtree node with the primes of equal subs joined: the list that a node there has. It refuses as
@@ -125,5 +125,5 @@ pub fn merge_at(
         right: children.1,
     };
     let sorted = by_sub(alloc, pairs)?;
-    merge(alloc, m, recent, &fork, sorted.as_slice())
+    merge(m, recent, &fork, sorted.as_slice())
 }

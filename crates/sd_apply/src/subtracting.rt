@@ -21,7 +21,6 @@ use sd_manager::{Manager, NodeId};
 use sd_model::Operation;
 use sd_runs::TakeError;
 use sd_vtree::VNode;
-use std::alloc::Global;
 
 /// The number of the difference among the operations.
 pub(crate) const DIFFERENCE: u8 = 6;
@@ -49,7 +48,6 @@ pub(crate) fn known(a: u32, b: u32) -> Option<u32>
 /// The difference of two nodes below a vtree node.
 #[inline(never)]
 pub(crate) fn subtract_at(
-    alloc: Global,
     m: &mut Manager,
     recent: &mut Recent,
     at: VNode,
@@ -67,14 +65,13 @@ pub(crate) fn subtract_at(
     ensures rule { IfErr result (λ e. KeepsRule m.new e) }
     ensures table { IsTable m.new }
 {
-    find_or_subtract(alloc, m, recent, at, a, b)
+    find_or_subtract(m, recent, at, a, b)
 }
 
 // The same in place, so that what is known is found without a call.
 #[cycle(subtract)]
 #[inline(always)]
 fn find_or_subtract(
-    alloc: Global,
     m: &mut Manager,
     recent: &mut Recent,
     at: VNode,
@@ -98,19 +95,18 @@ fn find_or_subtract(
         return Ok(NodeId(code));
     }
     if a.0 == 1 {
-        return negate_at(alloc, m, recent, at, b);
+        return negate_at(m, recent, at, b);
     }
     if let Some(code) = recent.look(DIFFERENCE, a.0, b.0) {
         return Ok(NodeId(code));
     }
-    subtract_anew(alloc, m, recent, at, a, b)
+    subtract_anew(m, recent, at, a, b)
 }
 
 // The difference of nodes that are neither constants nor of one leaf, which is not known, and is kept.
 #[cycle(subtract)]
 #[inline(never)]
 fn subtract_anew(
-    alloc: Global,
     m: &mut Manager,
     recent: &mut Recent,
     at: VNode,
@@ -131,8 +127,8 @@ fn subtract_anew(
     ensures rule { IfErr result (λ e. KeepsRule m.new e) }
     ensures table { IsTable m.new }
 {
-    let code = subtract_at_lca(alloc, m, recent, at, a, b)?;
-    recent.keep(alloc, DIFFERENCE, a.0, b.0, code.0);
+    let code = subtract_at_lca(m, recent, at, a, b)?;
+    recent.keep(DIFFERENCE, a.0, b.0, code.0);
     Ok(code)
 }
 
@@ -141,7 +137,6 @@ fn subtract_anew(
 #[cycle(subtract)]
 #[inline(always)]
 fn subtract_at_lca(
-    alloc: Global,
     m: &mut Manager,
     recent: &mut Recent,
     at: VNode,
@@ -164,15 +159,14 @@ fn subtract_at_lca(
 {
     let fork = lca_with_children(m, at, a, b);
     if let Some(found) = both_halves(m, &fork, a, b) {
-        return subtract_by_halves(alloc, m, recent, &found, a, b);
+        return subtract_by_halves(m, recent, &found, a, b);
     }
-    and_negation(alloc, m, recent, at, a, b)
+    and_negation(m, recent, at, a, b)
 }
 
 // The same as a conjunction with the negation of the second node.
 #[inline(never)]
 fn and_negation(
-    alloc: Global,
     m: &mut Manager,
     recent: &mut Recent,
     at: VNode,
@@ -190,14 +184,13 @@ fn and_negation(
     ensures rule { IfErr result (λ e. KeepsRule m.new e) }
     ensures table { IsTable m.new }
 {
-    let other = negate_at(alloc, m, recent, at, b)?;
-    apply(alloc, m, recent, Operation::And, at, a, other)
+    let other = negate_at(m, recent, at, b)?;
+    apply(m, recent, Operation::And, at, a, other)
 }
 
 // The same from the halves of both nodes, where the left child of that vtree node is a leaf.
 #[cycle(subtract)]
 fn subtract_by_halves(
-    alloc: Global,
     m: &mut Manager,
     recent: &mut Recent,
     found: &BothHalves,
@@ -216,7 +209,7 @@ fn subtract_by_halves(
 {
     let right = found.split.right;
     let (first, second) = (&found.first, &found.second);
-    let both = subtract_halves(alloc, m, recent, right, first, second)?;
+    let both = subtract_halves(m, recent, right, first, second)?;
     if are_same_halves(&both, first) {
         return Ok(a);
     }
@@ -227,7 +220,6 @@ fn subtract_by_halves(
 #[cycle(subtract)]
 #[inline(always)]
 fn subtract_halves(
-    alloc: Global,
     m: &mut Manager,
     recent: &mut Recent,
     right: VNode,
@@ -247,7 +239,7 @@ fn subtract_halves(
     ensures rule { IfErr result (λ e. KeepsRule m.new e) }
     ensures table { IsTable m.new }
 {
-    let high = find_or_subtract(alloc, m, recent, right, first.0, second.0)?;
-    let low = find_or_subtract(alloc, m, recent, right, first.1, second.1)?;
+    let high = find_or_subtract(m, recent, right, first.0, second.0)?;
+    let low = find_or_subtract(m, recent, right, first.1, second.1)?;
     Ok((high, low))
 }
