@@ -1,5 +1,5 @@
 -- Answers of conditioning and forgetting at a node: its own, one that is kept, one that was found.
-use Rattle.std.proofs.Common.{◌≡◌, ℕ, ◌≤◌, Bool, List, get_or, Some, sym, ◌∙◌, subst}
+use Rattle.std.proofs.Common.{◌≡◌, ℕ, ◌≤◌, Bool, true, false, List, get_or, Some, sym, ◌∙◌, subst}
 use Rattle.std.specs.FinMap.{get}
 use Rattle.sd_model.specs.Assignment.{with_value}
 use Rattle.sd_model.specs.Diagram.{Diagram, meaning}
@@ -12,14 +12,13 @@ use Rattle.sd_manager.specs.Making.{Extends}
 use Rattle.sd_manager.specs.Valid.{IsTable}
 use Rattle.sd_apply.specs.Answers.{HasAnswer}
 use Rattle.sd_apply.specs.Places.{tree_at, IsCanonicalUnder, IsBelow, IsThere, HasPlace}
-use Rattle.sd_apply.specs.Growing.{GrowsBelow}
-use Rattle.sd_apply.proofs.Growing.{grows_wider}
 use Rattle.sd_apply.proofs.Trees.{under_number}
 use Rattle.sd_apply.proofs.Standing.{stands_here, shown}
 use Rattle.sd_apply.proofs.Listed.{shown_on, answer_on}
-use Rattle.sd_cond.specs.Calls.{conditioned, AnswersOf, IsAnswer, Tells}
+use Rattle.sd_cond.specs.Calls.{conditioned, forgotten, AnswersOf, IsAnswer, Tells}
+use Rattle.sd_cond.specs.declared.kept.ForgetAnswers.{ForgetAnswers}
 use Rattle.sd_cond.specs.declared.kept.KeptAnswers.{KeptAnswers}
-use Rattle.sd_cond.specs.Kept.{AreAnswers}
+use Rattle.sd_cond.specs.Kept.{AreAnswers, AreForgetAnswers}
 use Rattle.sd_cond.proofs.Changing.{set_outside, set_both}
 use Rattle.sd_cond.proofs.Sides.{not_below}
 
@@ -38,6 +37,15 @@ answers_on old new x f kept h = record {
   right = λ k d lt some.
       let e = get_or kept.entries.items k d in
       answer_grown old new x f e.code e.answer (h.right k d lt some);
+}
+
+-- so does what forgetting keeps
+pub forget_answers_on : {old new : Table} {x : ℕ} {kept : ForgetAnswers} → Extends old new →
+    AreForgetAnswers old x kept → AreForgetAnswers new x kept
+forget_answers_on {old} {new} {x} {kept} e h = record {
+  alone = answers_on old new e (forgotten x) kept.forgotten h.alone;
+  where_true = answers_on old new e (conditioned x true) kept.with_true h.where_true;
+  where_false = answers_on old new e (conditioned x false) kept.with_false h.where_false;
 }
 
 -- a kept answer
@@ -123,13 +131,6 @@ leaf_on old new x leaf v e = subst (λ t. variable_at t leaf ≡ Some v) (sym x.
 pub tells_on : (old new : Table) → Extends old new → (leaf at : ℕ) (here : Bool) →
     Tells old.vtree leaf at here → Tells new.vtree leaf at here
 tells_on old new x leaf at here h = subst (λ t. Tells t leaf at here) (sym x.vtree) h
-
--- what is new below a vtree node is so below each one over it
-pub wider_on : (old new : Table) → Extends old new → IsTable old → (p at : ℕ) → IsUnder old.vtree p at →
-    GrowsBelow old new p → GrowsBelow old new at
-wider_on old new x i p at h g =
-    grows_wider old new (subst IsNumbered (sym x.vtree) i.numbered) p at
-    (subst (λ t. IsUnder t p at) (sym x.vtree) h) g
 
 -- the place of a node, in a larger table
 pub place_on : (old new : Table) → Extends old new → IsTable new → (a p : ℕ) → IsNodeOf old a →

@@ -18,13 +18,10 @@ use Rattle.sd_manager.specs.Making.{Extends}
 use Rattle.sd_manager.specs.Valid.{IsTable}
 use Rattle.sd_apply.specs.Answers.{HasAnswer}
 use Rattle.sd_apply.specs.Places.{IsCanonicalUnder, IsBelow, IsThere, HasPlace, HasChildren}
-use Rattle.sd_apply.specs.Growing.{GrowsBelow}
 use Rattle.sd_apply.specs.Halves.{HasHalves, Halves, IsLeafFork, MakesHalves}
 use Rattle.sd_apply.proofs.Trees.{right_there, there_inner}
 use Rattle.sd_apply.proofs.JoiningPlaces.{leaf_tree}
-use Rattle.sd_apply.proofs.Growing.{grows_both}
-use Rattle.sd_apply.proofs.JoiningSteps.{grows_up}
-use Rattle.sd_apply.proofs.Listed.{node_on, under_on, children_on}
+use Rattle.sd_apply.proofs.Listed.{node_on, under_on}
 use Rattle.sd_apply.proofs.Standing.{shown}
 use Rattle.sd_cond.specs.Calls.{conditioned, AnswersOf}
 use Rattle.sd_cond.proofs.Sides.{not_below}
@@ -153,10 +150,3 @@ pub half_below : (m0 m1 m2 : Table) → IsTable m0 → Extends m0 m1 → Extends
     1 ≤ x → IsBelow m0 w a → AnswersOf m0 m1 (conditioned x s) a c → IsBelow m2 w c
 half_below m0 m1 m2 i e1 e2 w x s a c low b h =
     answered_below m0 m1 m2 e1 e2 w x s a c low (below_node m0 w a b) (below_each m0 i w a b) h
-
--- what two calls below the right child made is below the vtree node
-pub grown_twice : (m0 m1 m2 : Table) → Extends m0 m1 → Extends m1 m2 → IsTable m0 → IsTable m1 → (p u w : ℕ) →
-    HasChildren m0.vtree p u w → GrowsBelow m0 m1 w → GrowsBelow m1 m2 w → GrowsBelow m0 m2 p
-grown_twice m0 m1 m2 e1 e2 i j p u w children f g =
-    grows_both m0 m1 m2 p e2 (grows_up m0 m1 e1 i.numbered p u w children f)
-    (grows_up m1 m2 e2 j.numbered p u w (children_on m0 m1 e1 p u w children) g)

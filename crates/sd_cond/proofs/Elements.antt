@@ -1,6 +1,6 @@
 -- Elements where a variable has a value: one more, all of them, and the node that they make.
 use Rattle.std.proofs.Common.{◌≡◌, ℕ, ◌+◌, ◌≤◌, ◌<◌, Bool, false, cond, List, [], ◌∷◌, ◌++◌}
-use Rattle.std.proofs.Common.{length, take, get_or, refl, sym, ◌∙◌, ap, subst}
+use Rattle.std.proofs.Common.{length, take, get_or, sym, ◌∙◌, ap, subst}
 use Rattle.std.proofs.Common.{append-nil}
 use Rattle.std.specs.FinMap.{get}
 use Rattle.sd_model.specs.Assignment.{with_value}
@@ -16,58 +16,36 @@ use Rattle.sd_manager.specs.Valid.{IsTable}
 use Rattle.sd_apply.specs.Answers.{Compresses}
 use Rattle.sd_apply.specs.Places.{IsCanonicalUnder, HasPlace, HasChildren}
 use Rattle.sd_apply.specs.Elements.{IsPair, IsPaired, ListsElements, HasList}
-use Rattle.sd_apply.specs.Serving.{Serves}
-use Rattle.sd_apply.proofs.Growing.{either_none, either_both}
-use Rattle.sd_apply.proofs.Listed.{pair_on, lists_on, lists_push, lists_none}
-use Rattle.sd_manager.proofs.Extending.{extends_self, extends_on}
+use Rattle.sd_apply.proofs.Listed.{pair_on, lists_on, lists_push}
+use Rattle.sd_manager.proofs.Extending.{extends_on}
 use Rattle.sd_apply.proofs.Listed.{lists_at, take_answers, take_all, one_answer, answers_push, node_on, shown_on}
 use Rattle.sd_apply.proofs.Same.{same_shown}
 use Rattle.sd_apply.proofs.Rows.{pair_prime, pair_sub, not_bottom, false_value}
 use Rattle.sd_apply.proofs.Merging.{partition_at}
 use Rattle.sd_apply.proofs.Expanding.{own_list}
 use Rattle.sd_apply.proofs.Standing.{shown}
-use Rattle.sd_cond.specs.Calls.{conditioned, AnswersOf, FixesPairs}
+use Rattle.sd_cond.specs.Calls.{conditioned, AnswersOf, IsStep, FixesPairs}
 use Rattle.sd_cond.specs.declared.kept.KeptAnswers.{KeptAnswers}
 use Rattle.sd_cond.specs.Kept.{AreAnswers}
 use Rattle.sd_cond.proofs.Answering.{conditioned_under}
-use Rattle.sd_cond.proofs.Steps.{IsStep, InPairs}
-
--- no element yet
-pub pairs_none : (t : Table) (kept : KeptAnswers) (c : Answers) (x : ℕ) (s : Bool) (u w : ℕ)
-    (l : List (ℕ × ℕ)) → IsTable t → AreAnswers t (conditioned x s) kept → Serves c t →
-    InPairs t t kept c x s u w l [] 0
-pairs_none t kept c x s u w l i k serves = record {
-  step = record {
-    extends = extends_self t;
-    knows = k;
-    serves = serves;
-    table = i;
-    grown = either_none t u w;
-  };
-  pairs = λ ds hd. record { shown = []; lists = lists_none t u w; value = λ a. refl };
-}
+use Rattle.sd_cond.proofs.Steps.{InPairs}
 
 -- one whose prime is false
-pub pairs_skip : (m0 m m1 : Table) (k k1 : KeptAnswers) (c c1 : Answers) (x : ℕ) (s : Bool) (u w : ℕ)
-    (l r : List (ℕ × ℕ)) (i : ℕ) (e : ℕ × ℕ) (prime : ℕ) → InPairs m0 m k c x s u w l r i →
-    IsStep m m1 (conditioned x s) k1 c1 u w → i < length l → ◌≡◌ {A = ℕ × ℕ} e (get_or l i (0, 0)) →
-    AnswersOf m m1 (conditioned x s) e.0 prime → prime ≡ 0 → InPairs m0 m1 k1 c1 x s u w l r (i + 1)
-pairs_skip m0 m m1 k k1 c c1 x s u w l r i e prime h n lt at p none = record {
-  step = record {
-    extends = extends_on m0 m m1 h.step.extends n.extends;
-    knows = n.knows;
-    serves = n.serves;
-    table = n.table;
-    grown = either_both m0 m m1 u w n.extends h.step.grown n.grown;
-  };
+pub pairs_skip : (m0 m m1 : Table) (at : ℕ) (k k1 : KeptAnswers) (c c1 : Answers) (x : ℕ) (s : Bool) (u w : ℕ)
+    (l r : List (ℕ × ℕ)) (i : ℕ) (e : ℕ × ℕ) (prime : ℕ) → InPairs m0 m at k c x s u w l r i → Extends m m1 →
+    IsStep m0 m1 at c1 → AreAnswers m1 (conditioned x s) k1 → i < length l → ◌≡◌ {A = ℕ × ℕ} e (get_or l i (0, 0)) →
+    AnswersOf m m1 (conditioned x s) e.0 prime → prime ≡ 0 → InPairs m0 m1 at k1 c1 x s u w l r (i + 1)
+pairs_skip m0 m m1 at k k1 c c1 x s u w l r i e prime h x1 n kn lt here p none = record {
+  step = n;
+  knows = kn;
   pairs = λ ds hd.
       let q = h.pairs ds hd in
-      let d = lists_at m0 u w l ds hd i lt e at in
-      let d0 = pair_on m0 m h.step.extends u w e d.0 d.1.pair in
+      let d = lists_at m0 u w l ds hd i lt e here in
+      let d0 = pair_on m0 m h.step.kept u w e d.0 d.1.pair in
       let z = p.each d.0.0 (shown m u e.0 d.0.0 (pair_prime m u w e d.0 d0)) in
       record {
         shown = q.shown;
-        lists = lists_on m m1 n.extends u w r q.shown q.lists;
+        lists = lists_on m m1 x1 u w r q.shown q.lists;
         value = λ a.
             let b = with_value a x s in
             let false_prime : meaning d.0.0 b ≡ false =
@@ -81,35 +59,28 @@ pairs_skip m0 m m1 k k1 c c1 x s u w l r i e prime h n lt at p none = record {
 }
 
 -- one with a prime that is not false
-pub pairs_push : (m0 m m1 m2 : Table) (k k1 k2 : KeptAnswers) (c c1 c2 : Answers) (x : ℕ) (s : Bool)
+pub pairs_push : (m0 m m1 m2 : Table) (at : ℕ) (k k2 : KeptAnswers) (c c2 : Answers) (x : ℕ) (s : Bool)
     (u w : ℕ) (l r r2 : List (ℕ × ℕ)) (i : ℕ) (e : ℕ × ℕ) (prime sub : ℕ) → 1 ≤ x →
-    InPairs m0 m k c x s u w l r i → IsStep m m1 (conditioned x s) k1 c1 u w →
-    IsStep m1 m2 (conditioned x s) k2 c2 u w → i < length l → ◌≡◌ {A = ℕ × ℕ} e (get_or l i (0, 0)) →
+    InPairs m0 m at k c x s u w l r i → Extends m m1 → Extends m1 m2 → IsStep m0 m2 at c2 →
+    AreAnswers m2 (conditioned x s) k2 → i < length l → ◌≡◌ {A = ℕ × ℕ} e (get_or l i (0, 0)) →
     AnswersOf m m1 (conditioned x s) e.0 prime → (prime ≡ 0 → ⊥) →
     AnswersOf m1 m2 (conditioned x s) e.1 sub → r2 ≡ r ++ (prime, sub) ∷ [] →
-    InPairs m0 m2 k2 c2 x s u w l r2 (i + 1)
-pairs_push m0 m m1 m2 k k1 k2 c c1 c2 x s u w l r r2 i e prime sub low h n n2 lt at p some y pushed =
-    let x1 = extends_on m0 m m1 h.step.extends n.extends in
+    InPairs m0 m2 at k2 c2 x s u w l r2 (i + 1)
+pairs_push m0 m m1 m2 at k k2 c c2 x s u w l r r2 i e prime sub low h x1 x2 n kn lt here p some y pushed =
     record {
-      step = record {
-        extends = extends_on m0 m1 m2 x1 n2.extends;
-        knows = n2.knows;
-        serves = n2.serves;
-        table = n2.table;
-        grown = either_both m0 m1 m2 u w n2.extends
-            (either_both m0 m m1 u w n.extends h.step.grown n.grown) n2.grown;
-      };
+      step = n;
+      knows = kn;
       pairs = λ ds hd.
           let q = h.pairs ds hd in
-          let d = lists_at m0 u w l ds hd i lt e at in
-          let d0 = pair_on m0 m h.step.extends u w e d.0 d.1.pair in
-          let d1 = pair_on m m1 n.extends u w e d.0 d0 in
-          let d2 = pair_on m1 m2 n2.extends u w e d.0 d1 in
+          let d = lists_at m0 u w l ds hd i lt e here in
+          let d0 = pair_on m0 m h.step.kept u w e d.0 d.1.pair in
+          let d1 = pair_on m m1 x1 u w e d.0 d0 in
+          let d2 = pair_on m1 m2 x2 u w e d.0 d1 in
           let z = p.each d.0.0 (shown m u e.0 d.0.0 (pair_prime m u w e d.0 d0)) in
           let v = y.each d.0.1 (shown m1 w e.1 d.0.1 (pair_sub m1 u w e d.0 d1)) in
           let prime1 : IsCanonicalUnder m1.vtree u z.diagram =
           conditioned_under m1.vtree u x s d.0.0 z.diagram low d1.prime z.is.canonical z.value in
-          let prime2 = node_on m1 m2 n2.extends u prime z.diagram (record {
+          let prime2 = node_on m1 m2 x2 u prime z.diagram (record {
             shows = z.is.shows;
             under = prime1;
           }) in
@@ -122,7 +93,7 @@ pairs_push m0 m m1 m2 k k1 k2 c c1 c2 x s u w l r r2 i e prime sub low h n n2 lt
             possible = not_bottom m1 prime z.diagram z.is.shows some;
           } in
           let lists = lists_push m2 u w r q.shown (prime, sub) new
-          (lists_on m m2 (extends_on m m1 m2 n.extends n2.extends) u w r q.shown q.lists) pair in
+          (lists_on m m2 (extends_on m m1 m2 x1 x2) u w r q.shown q.lists) pair in
           let L : List (ℕ × ℕ) → Type 0 = λ j. ListsElements m2 u w j (q.shown ++ new ∷ []) in
           record {
             shown = q.shown ++ new ∷ [];
@@ -145,10 +116,10 @@ prime_possible t i u w e h none =
     h.is.possible (bottom_from_code t.vtree (get t.linked) i.numbered h.shown.0 (subst S none h.is.prime_shows))
 
 -- all of them
-pub pairs_done : (m0 m : Table) (k : KeptAnswers) (c : Answers) (x : ℕ) (s : Bool) (u w : ℕ)
-    (l r : List (ℕ × ℕ)) (i : ℕ) → InPairs m0 m k c x s u w l r i → length l ≤ i → i ≤ length l →
+pub pairs_done : (m0 m : Table) (at : ℕ) (k : KeptAnswers) (c : Answers) (x : ℕ) (s : Bool) (u w : ℕ)
+    (l r : List (ℕ × ℕ)) (i : ℕ) → InPairs m0 m at k c x s u w l r i → length l ≤ i → i ≤ length l →
     FixesPairs m0 m x s u w l r
-pairs_done m0 m k c x s u w l r i h lo hi = record {
+pairs_done m0 m at k c x s u w l r i h lo hi = record {
   each = λ ds hd.
       let q = h.pairs ds hd in
       record {

@@ -17,24 +17,20 @@ use Rattle.sd_manager.specs.Views.{pairs_at}
 use Rattle.sd_manager.specs.Making.{Extends}
 use Rattle.sd_manager.specs.Valid.{IsTable}
 use Rattle.sd_apply.specs.Answers.{Combines}
-use Rattle.sd_apply.specs.Growing.{GrowsBelow}
 use Rattle.sd_apply.specs.Places.{tree_at, IsCanonicalUnder, IsBelow, IsThere, HasPlace, HasChildren}
 use Rattle.sd_apply.specs.Elements.{IsPair, ListsElements, HasList, beside}
-use Rattle.sd_apply.specs.Serving.{Serves}
-use Rattle.sd_apply.proofs.Growing.{either_none, either_both, grows_both}
-use Rattle.sd_apply.proofs.Listed.{pair_on, lists_on, lists_push, lists_none}
-use Rattle.sd_manager.proofs.Extending.{extends_self, extends_on}
+use Rattle.sd_apply.proofs.Listed.{pair_on, lists_on, lists_push}
 use Rattle.sd_apply.proofs.Listed.{lists_at, take_all, shown_on, IsAt, one_answer, answers_push}
 use Rattle.sd_apply.proofs.Rows.{pair_sub}
 use Rattle.sd_apply.proofs.Expanding.{own_list}
 use Rattle.sd_apply.proofs.Standing.{shown}
-use Rattle.sd_cond.specs.Calls.{conditioned, forgotten, answers_by, AnswersOf, ForgetsSubs}
-use Rattle.sd_cond.specs.declared.kept.KeptAnswers.{KeptAnswers}
-use Rattle.sd_cond.specs.Kept.{AreAnswers}
+use Rattle.sd_cond.specs.Calls.{conditioned, forgotten, answers_by, AnswersOf, IsStep, ForgetsSubs}
+use Rattle.sd_cond.specs.declared.kept.ForgetAnswers.{ForgetAnswers}
+use Rattle.sd_cond.specs.Kept.{AreForgetAnswers}
 use Rattle.sd_cond.proofs.Changing.{set_both}
 use Rattle.sd_cond.proofs.Terminals.{terminal_value, terminal_fixed}
 use Rattle.sd_cond.proofs.Answering.{outside_value, conditioned_under}
-use Rattle.sd_cond.proofs.Steps.{IsStep, InSubs}
+use Rattle.sd_cond.proofs.Steps.{InSubs}
 
 or_self : (b c d : Bool) → b ≡ c → b ≡ d → b ≡ (c || d)
 or_self true c d e f = go c d e f
@@ -139,46 +135,20 @@ take_by f a t u w e ds i d h =
     let next : i + 1 ≡ suc i = omega arith in
     ap (λ k. answers_by f a (take k ds)) next ∙ ap (answers_by f a) h.more ∙ by_push f a (take i ds) d
 
--- no element yet
-pub subs_none : (t : Table) (kept yes_kept no_kept : KeptAnswers) (c : Answers) (x u w : ℕ)
-    (l : List (ℕ × ℕ)) → IsTable t → AreAnswers t (forgotten x) kept →
-    AreAnswers t (conditioned x true) yes_kept → AreAnswers t (conditioned x false) no_kept → Serves c t →
-    InSubs t t kept yes_kept no_kept c x u w l [] 0
-subs_none t kept yes_kept no_kept c x u w l i k ky kn serves = record {
-  step = record {
-    extends = extends_self t;
-    knows = k;
-    serves = serves;
-    table = i;
-    grown = either_none t u w;
-  };
-  knows_true = ky;
-  knows_false = kn;
-  subs = λ ds hd. record { shown = []; lists = lists_none t u w; value = λ a. refl };
-}
-
 -- one more
-pub subs_next : (m0 m m1 : Table) (k ky kn k1 ky1 kn1 : KeptAnswers) (c c1 : Answers) (x u w : ℕ)
-    (l r r1 : List (ℕ × ℕ)) (i : ℕ) (e : ℕ × ℕ) (sub : ℕ) → 1 ≤ x →
-    InSubs m0 m k ky kn c x u w l r i → IsStep m m1 (forgotten x) k1 c1 u w →
-    AreAnswers m1 (conditioned x true) ky1 → AreAnswers m1 (conditioned x false) kn1 →
-    i < length l → ◌≡◌ {A = ℕ × ℕ} e (get_or l i (0, 0)) → AnswersOf m m1 (forgotten x) e.1 sub →
-    r1 ≡ r ++ (e.0, sub) ∷ [] → InSubs m0 m1 k1 ky1 kn1 c1 x u w l r1 (i + 1)
-subs_next m0 m m1 k ky kn k1 ky1 kn1 c c1 x u w l r r1 i e sub low h n yes_known no_known lt at p pushed = record {
-  step = record {
-    extends = extends_on m0 m m1 h.step.extends n.extends;
-    knows = n.knows;
-    serves = n.serves;
-    table = n.table;
-    grown = either_both m0 m m1 u w n.extends h.step.grown n.grown;
-  };
-  knows_true = yes_known;
-  knows_false = no_known;
+pub subs_next : (m0 m m1 : Table) (at : ℕ) (k k1 : ForgetAnswers) (c c1 : Answers) (x u w : ℕ)
+    (l r r1 : List (ℕ × ℕ)) (i : ℕ) (e : ℕ × ℕ) (sub : ℕ) → 1 ≤ x → InSubs m0 m at k c x u w l r i →
+    Extends m m1 → IsStep m0 m1 at c1 → AreForgetAnswers m1 x k1 → i < length l →
+    ◌≡◌ {A = ℕ × ℕ} e (get_or l i (0, 0)) → AnswersOf m m1 (forgotten x) e.1 sub → r1 ≡ r ++ (e.0, sub) ∷ [] →
+    InSubs m0 m1 at k1 c1 x u w l r1 (i + 1)
+subs_next m0 m m1 at k k1 c c1 x u w l r r1 i e sub low h x1 n kn lt here p pushed = record {
+  step = n;
+  knows = kn;
   subs = λ ds hd.
       let q = h.subs ds hd in
-      let d = lists_at m0 u w l ds hd i lt e at in
-      let d0 = pair_on m0 m h.step.extends u w e d.0 d.1.pair in
-      let d1 = pair_on m m1 n.extends u w e d.0 d0 in
+      let d = lists_at m0 u w l ds hd i lt e here in
+      let d0 = pair_on m0 m h.step.kept u w e d.0 d.1.pair in
+      let d1 = pair_on m m1 x1 u w e d.0 d0 in
       let z = p.each d.0.1 (shown m w e.1 d.0.1 (pair_sub m u w e d.0 d0)) in
       let new : Diagram × Diagram = (d.0.0, z.diagram) in
       let pair : IsPair m1 u w (e.0, sub) new = record {
@@ -192,7 +162,7 @@ subs_next m0 m m1 k ky kn k1 ky1 kn1 c c1 x u w l r r1 i e sub low h n yes_known
       record {
         shown = q.shown ++ new ∷ [];
         lists = subst L (sym pushed)
-            (lists_push m1 u w r q.shown (e.0, sub) new (lists_on m m1 n.extends u w r q.shown q.lists)
+            (lists_push m1 u w r q.shown (e.0, sub) new (lists_on m m1 x1 u w r q.shown q.lists)
             pair);
         value = λ a.
             let old = answers_by (forgotten x) a (take i ds) in
@@ -204,10 +174,10 @@ subs_next m0 m m1 k ky kn k1 ky1 kn1 c c1 x u w l r r1 i e sub low h n yes_known
 }
 
 -- all of them
-pub subs_done : (m0 m : Table) (k ky kn : KeptAnswers) (c : Answers) (x u w : ℕ)
-    (l r : List (ℕ × ℕ)) (i : ℕ) → InSubs m0 m k ky kn c x u w l r i → length l ≤ i → i ≤ length l →
+pub subs_done : (m0 m : Table) (at : ℕ) (k : ForgetAnswers) (c : Answers) (x u w : ℕ)
+    (l r : List (ℕ × ℕ)) (i : ℕ) → InSubs m0 m at k c x u w l r i → length l ≤ i → i ≤ length l →
     ForgetsSubs m0 m x u w l r
-subs_done m0 m k ky kn c x u w l r i h lo hi = record {
+subs_done m0 m at k c x u w l r i h lo hi = record {
   each = λ ds hd.
       let q = h.subs ds hd in
       record {
@@ -319,8 +289,3 @@ forget_both m0 m1 m2 m3 x1 x2 x a b c r first second join = record {
             ∙ ap (λ v. meaning d (with_value g x true) || v) (z.value g);
       };
 }
-
--- where new nodes stand after three steps
-pub grown_both : (m0 m1 m2 m3 : Table) (p : ℕ) → Extends m1 m2 → Extends m2 m3 → GrowsBelow m0 m1 p →
-    GrowsBelow m1 m2 p → GrowsBelow m2 m3 p → GrowsBelow m0 m3 p
-grown_both m0 m1 m2 m3 p x y f g h = grows_both m0 m2 m3 p y (grows_both m0 m1 m2 p x f g) h

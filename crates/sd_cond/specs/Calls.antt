@@ -3,11 +3,16 @@ use Rattle.std.specs.Prelude.{◌≡◌, ℕ, Bool, true, false, ◌||◌, cond,
 use Rattle.sd_model.specs.Assignment.{with_value}
 use Rattle.sd_model.specs.Diagram.{Diagram, meaning}
 use Rattle.sd_vtree.specs.Numbered.{Numbered, IsUnder}
+use Rattle.sd_cache.specs.Entries.{Answers}
 use Rattle.sd_laws.specs.Pairs.{answers}
 use Rattle.sd_manager.specs.Table.{Table}
 use Rattle.sd_manager.specs.Shown.{ShowsCanonical}
+use Rattle.sd_manager.specs.Making.{Extends}
+use Rattle.sd_manager.specs.Valid.{IsTable}
 use Rattle.sd_apply.specs.Answers.{HasAnswer}
 use Rattle.sd_apply.specs.Elements.{ListsElements, HasList}
+use Rattle.sd_apply.specs.Growing.{GrowsBelow}
+use Rattle.sd_apply.specs.Serving.{Serves}
 
 -- the value of a diagram where the variable x has the value s
 abbrev pub conditioned : ℕ → Bool → Diagram → List Bool → Bool
@@ -16,6 +21,14 @@ conditioned x s d a = meaning d (with_value a x s)
 -- the value of a diagram for one of both values of the variable x
 abbrev pub forgotten : ℕ → Diagram → List Bool → Bool
 forgotten x d a = meaning d (with_value a x true) || meaning d (with_value a x false)
+
+-- What each call leaves, also where it refuses: the nodes that were there stay as they were, each new one stands at the
+-- vtree node or below it, what the cache knows is right for the table, and that is valid.
+pub record IsStep (old new : Table) (at : ℕ) (c : Answers) : Type 0 where
+  pub kept : Extends old new
+  pub grown : GrowsBelow old new at
+  pub serves : Serves c new
+  pub table : IsTable new
 
 -- what an operation of value f answers at a node
 pub record AnswersOf (old new : Table) (f : Diagram → List Bool → Bool) (a c : ℕ) : Type 0 where

@@ -5,12 +5,11 @@ ghost use Rattle.sd_vtree.specs.Numbered.{variable_at, IsUnder};
 ghost use Rattle.sd_manager.specs.Table.{Table};
 ghost use Rattle.sd_manager.specs.Shown.{ShowsCanonical, IsNodeOf};
 ghost use Rattle.sd_manager.specs.Valid.{IsTable};
-ghost use Rattle.sd_manager.specs.Making.{Extends, KeepsRule};
-ghost use Rattle.sd_apply.specs.Growing.{GrowsBelow, GrowsBelowEither};
+ghost use Rattle.sd_manager.specs.Making.{KeepsRule};
 ghost use Rattle.sd_apply.specs.Places.{IsBelow, HasPlace, IsFork};
 ghost use Rattle.sd_apply.specs.Elements.{AreListedElements};
 ghost use Rattle.sd_apply.specs.Serving.{Serves};
-ghost use Rattle.sd_cond.specs.Calls.{conditioned, AnswersOf, Tells, FixesPairs};
+ghost use Rattle.sd_cond.specs.Calls.{conditioned, AnswersOf, IsStep, Tells, FixesPairs};
 ghost use Rattle.sd_cond.specs.ByHalves.{IsHalved};
 ghost use Rattle.sd_cond.specs.Kept.{AreAnswers};
 
@@ -68,13 +67,10 @@ pub(crate) fn given_at(
     requires serves { Serves c.old m.old }
     ensures ok { IfOk result (λ r.
         AnswersOf m.old m.new (conditioned condition.now.variable condition.now.positive) a r) }
-    ensures kept { Extends m.old m.new }
-    ensures grown { GrowsBelow m.old m.new at }
+    ensures step { IsStep m.old m.new at c.new }
     ensures knows { AreAnswers m.new
         (conditioned condition.now.variable condition.now.positive) kept.new }
-    ensures serves { Serves c.new m.new }
     ensures rule { IfErr result (λ e. KeepsRule m.new e) }
-    ensures table { IsTable m.new }
 {
     // its contract tells that the table is valid
     let _ = m.vtree();
@@ -120,13 +116,10 @@ pub(crate) fn given_here(
     requires table { IsTable m.old }
     ensures ok { IfOk result (λ r.
         AnswersOf m.old m.new (conditioned condition.now.variable condition.now.positive) a r) }
-    ensures kept { Extends m.old m.new }
-    ensures grown { GrowsBelow m.old m.new fork.now.node }
+    ensures step { IsStep m.old m.new fork.now.node c.new }
     ensures knows { AreAnswers m.new
         (conditioned condition.now.variable condition.now.positive) kept.new }
-    ensures serves { Serves c.new m.new }
     ensures rule { IfErr result (λ e. KeepsRule m.new e) }
-    ensures table { IsTable m.new }
 {
     if let Some(split) = split_of(m, fork) {
         if let Some(halves) = own_halves(m, fork.node, &split, a) {
@@ -163,13 +156,10 @@ fn given_halves(
     requires table { IsTable m.old }
     ensures ok { IfOk result (λ r.
         AnswersOf m.old m.new (conditioned condition.now.variable condition.now.positive) a r) }
-    ensures kept { Extends m.old m.new }
-    ensures grown { GrowsBelow m.old m.new halved.now.node }
+    ensures step { IsStep m.old m.new halved.now.node c.new }
     ensures knows { AreAnswers m.new
         (conditioned condition.now.variable condition.now.positive) kept.new }
-    ensures serves { Serves c.new m.new }
     ensures rule { IfErr result (λ e. KeepsRule m.new e) }
-    ensures table { IsTable m.new }
 {
     let Split { left, right, .. } = halved.split;
     let fork = Fork {
@@ -213,13 +203,10 @@ fn given_elements(
     requires table { IsTable m.old }
     ensures ok { IfOk result (λ r.
         AnswersOf m.old m.new (conditioned condition.now.variable condition.now.positive) a r) }
-    ensures kept { Extends m.old m.new }
-    ensures grown { GrowsBelow m.old m.new fork.now.node }
+    ensures step { IsStep m.old m.new fork.now.node c.new }
     ensures knows { AreAnswers m.new
         (conditioned condition.now.variable condition.now.positive) kept.new }
-    ensures serves { Serves c.new m.new }
     ensures rule { IfErr result (λ e. KeepsRule m.new e) }
-    ensures table { IsTable m.new }
 {
     let list = elements_of(alloc, m, a)?;
     let elements = list.as_slice();
@@ -253,13 +240,10 @@ fn given_pairs(
     requires table { IsTable m.old }
     ensures ok { IfOk result (λ r. FixesPairs m.old m.new condition.now.variable
         condition.now.positive fork.now.left fork.now.right list.now r.items) }
-    ensures kept { Extends m.old m.new }
-    ensures grown { GrowsBelowEither m.old m.new fork.now.left fork.now.right }
+    ensures step { IsStep m.old m.new fork.now.node c.new }
     ensures knows { AreAnswers m.new
         (conditioned condition.now.variable condition.now.positive) kept.new }
-    ensures serves { Serves c.new m.new }
     ensures rule { IfErr result (λ e. KeepsRule m.new e) }
-    ensures table { IsTable m.new }
 {
     if is_left(m, condition.leaf, fork) {
         given_primes(alloc, m, c, kept, condition, fork, list)
@@ -291,13 +275,10 @@ fn given_primes(
     requires table { IsTable m.old }
     ensures ok { IfOk result (λ r. FixesPairs m.old m.new condition.now.variable
         condition.now.positive fork.now.left fork.now.right list.now r.items) }
-    ensures kept { Extends m.old m.new }
-    ensures grown { GrowsBelowEither m.old m.new fork.now.left fork.now.right }
+    ensures step { IsStep m.old m.new fork.now.node c.new }
     ensures knows { AreAnswers m.new
         (conditioned condition.now.variable condition.now.positive) kept.new }
-    ensures serves { Serves c.new m.new }
     ensures rule { IfErr result (λ e. KeepsRule m.new e) }
-    ensures table { IsTable m.new }
 {
     let mut pairs = SmallVec::new(alloc);
     for i in 0..list.len() {
@@ -333,13 +314,10 @@ fn given_subs(
     requires table { IsTable m.old }
     ensures ok { IfOk result (λ r. FixesPairs m.old m.new condition.now.variable
         condition.now.positive fork.now.left fork.now.right list.now r.items) }
-    ensures kept { Extends m.old m.new }
-    ensures grown { GrowsBelowEither m.old m.new fork.now.left fork.now.right }
+    ensures step { IsStep m.old m.new fork.now.node c.new }
     ensures knows { AreAnswers m.new
         (conditioned condition.now.variable condition.now.positive) kept.new }
-    ensures serves { Serves c.new m.new }
     ensures rule { IfErr result (λ e. KeepsRule m.new e) }
-    ensures table { IsTable m.new }
 {
     let mut pairs = SmallVec::new(alloc);
     for i in 0..list.len() {

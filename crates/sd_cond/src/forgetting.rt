@@ -1,17 +1,16 @@
 // Forgetting below the vtree node of a node.
-ghost use Rattle.std.specs.Prelude.{◌≡◌, ◌≤◌, true, false, Some, IfOk, IfErr, IfSome, IfNone};
+ghost use Rattle.std.specs.Prelude.{◌≡◌, ◌≤◌, Some, IfOk, IfErr, IfSome, IfNone};
 ghost use Rattle.sd_model.specs.Diagram.{Diagram};
 ghost use Rattle.sd_vtree.specs.Numbered.{variable_at, IsUnder};
 ghost use Rattle.sd_manager.specs.Table.{Table};
 ghost use Rattle.sd_manager.specs.Shown.{ShowsCanonical, IsNodeOf};
 ghost use Rattle.sd_manager.specs.Valid.{IsTable};
-ghost use Rattle.sd_manager.specs.Making.{Extends, KeepsRule};
-ghost use Rattle.sd_apply.specs.Growing.{GrowsBelow, GrowsBelowEither};
+ghost use Rattle.sd_manager.specs.Making.{KeepsRule};
 ghost use Rattle.sd_apply.specs.Places.{IsBelow, HasPlace, IsFork};
 ghost use Rattle.sd_apply.specs.Elements.{AreListedElements};
 ghost use Rattle.sd_apply.specs.Serving.{Serves};
-ghost use Rattle.sd_cond.specs.Calls.{conditioned, forgotten, AnswersOf, ForgetsSubs};
-ghost use Rattle.sd_cond.specs.Kept.{AreAnswers};
+ghost use Rattle.sd_cond.specs.Calls.{forgotten, AnswersOf, IsStep, ForgetsSubs};
+ghost use Rattle.sd_cond.specs.Kept.{AreForgetAnswers};
 
 use crate::asked::{Condition, Variable};
 use crate::conditioning::given_here;
@@ -56,23 +55,12 @@ fn forget_at(
     requires leaf { variable_at m.old.vtree variable.now.leaf ≡ Some variable.now.number }
     requires over { IsUnder m.old.vtree variable.now.leaf at }
     requires a { IsBelow m.old at a }
-    requires knows { AreAnswers m.old (forgotten variable.now.number) answers.old.forgotten }
-    requires knows_true { AreAnswers m.old (conditioned variable.now.number true)
-        answers.old.with_true }
-    requires knows_false { AreAnswers m.old (conditioned variable.now.number false)
-        answers.old.with_false }
+    requires knows { AreForgetAnswers m.old variable.now.number answers.old }
     requires serves { Serves c.old m.old }
     ensures ok { IfOk result (λ r. AnswersOf m.old m.new (forgotten variable.now.number) a r) }
-    ensures kept { Extends m.old m.new }
-    ensures grown { GrowsBelow m.old m.new at }
-    ensures knows { AreAnswers m.new (forgotten variable.now.number) answers.new.forgotten }
-    ensures knows_true { AreAnswers m.new (conditioned variable.now.number true)
-        answers.new.with_true }
-    ensures knows_false { AreAnswers m.new (conditioned variable.now.number false)
-        answers.new.with_false }
-    ensures serves { Serves c.new m.new }
+    ensures step { IsStep m.old m.new at c.new }
+    ensures knows { AreForgetAnswers m.new variable.now.number answers.new }
     ensures rule { IfErr result (λ e. KeepsRule m.new e) }
-    ensures table { IsTable m.new }
 {
     // its contract tells that the table is valid
     let _ = m.vtree();
@@ -112,24 +100,13 @@ pub(crate) fn forget_here(
     requires code { 2050 ≤ a }
     requires place { (d : Diagram) → ShowsCanonical m.old a d
         → HasPlace m.old.vtree fork.now.node d }
-    requires knows { AreAnswers m.old (forgotten variable.now.number) answers.old.forgotten }
-    requires knows_true { AreAnswers m.old (conditioned variable.now.number true)
-        answers.old.with_true }
-    requires knows_false { AreAnswers m.old (conditioned variable.now.number false)
-        answers.old.with_false }
+    requires knows { AreForgetAnswers m.old variable.now.number answers.old }
     requires serves { Serves c.old m.old }
     requires table { IsTable m.old }
     ensures ok { IfOk result (λ r. AnswersOf m.old m.new (forgotten variable.now.number) a r) }
-    ensures kept { Extends m.old m.new }
-    ensures grown { GrowsBelow m.old m.new fork.now.node }
-    ensures knows { AreAnswers m.new (forgotten variable.now.number) answers.new.forgotten }
-    ensures knows_true { AreAnswers m.new (conditioned variable.now.number true)
-        answers.new.with_true }
-    ensures knows_false { AreAnswers m.new (conditioned variable.now.number false)
-        answers.new.with_false }
-    ensures serves { Serves c.new m.new }
+    ensures step { IsStep m.old m.new fork.now.node c.new }
+    ensures knows { AreForgetAnswers m.new variable.now.number answers.new }
     ensures rule { IfErr result (λ e. KeepsRule m.new e) }
-    ensures table { IsTable m.new }
 {
     if is_left(m, variable.leaf, fork) {
         return forget_by_both(alloc, m, c, answers, variable, fork, a);
@@ -157,27 +134,17 @@ fn forget_subs(
 ) -> Result<Pairs, TakeError>
     requires variable { 1 ≤ variable.now.number }
     requires leaf { variable_at m.old.vtree variable.now.leaf ≡ Some variable.now.number }
+    requires children { IsFork m.old.vtree fork.now }
     requires over { IsUnder m.old.vtree variable.now.leaf fork.now.right }
     requires list { AreListedElements m.old fork.now.left fork.now.right list.now }
-    requires knows { AreAnswers m.old (forgotten variable.now.number) answers.old.forgotten }
-    requires knows_true { AreAnswers m.old (conditioned variable.now.number true)
-        answers.old.with_true }
-    requires knows_false { AreAnswers m.old (conditioned variable.now.number false)
-        answers.old.with_false }
+    requires knows { AreForgetAnswers m.old variable.now.number answers.old }
     requires serves { Serves c.old m.old }
     requires table { IsTable m.old }
     ensures ok { IfOk result (λ r. ForgetsSubs m.old m.new variable.now.number fork.now.left
         fork.now.right list.now r.items) }
-    ensures kept { Extends m.old m.new }
-    ensures grown { GrowsBelowEither m.old m.new fork.now.left fork.now.right }
-    ensures knows { AreAnswers m.new (forgotten variable.now.number) answers.new.forgotten }
-    ensures knows_true { AreAnswers m.new (conditioned variable.now.number true)
-        answers.new.with_true }
-    ensures knows_false { AreAnswers m.new (conditioned variable.now.number false)
-        answers.new.with_false }
-    ensures serves { Serves c.new m.new }
+    ensures step { IsStep m.old m.new fork.now.node c.new }
+    ensures knows { AreForgetAnswers m.new variable.now.number answers.new }
     ensures rule { IfErr result (λ e. KeepsRule m.new e) }
-    ensures table { IsTable m.new }
 {
     let mut pairs = SmallVec::new(alloc);
     for i in 0..list.len() {
@@ -206,24 +173,13 @@ fn forget_by_both(
     requires code { 2050 ≤ a }
     requires place { (d : Diagram) → ShowsCanonical m.old a d
         → HasPlace m.old.vtree fork.now.node d }
-    requires knows { AreAnswers m.old (forgotten variable.now.number) answers.old.forgotten }
-    requires knows_true { AreAnswers m.old (conditioned variable.now.number true)
-        answers.old.with_true }
-    requires knows_false { AreAnswers m.old (conditioned variable.now.number false)
-        answers.old.with_false }
+    requires knows { AreForgetAnswers m.old variable.now.number answers.old }
     requires serves { Serves c.old m.old }
     requires table { IsTable m.old }
     ensures ok { IfOk result (λ r. AnswersOf m.old m.new (forgotten variable.now.number) a r) }
-    ensures kept { Extends m.old m.new }
-    ensures grown { GrowsBelow m.old m.new fork.now.node }
-    ensures knows { AreAnswers m.new (forgotten variable.now.number) answers.new.forgotten }
-    ensures knows_true { AreAnswers m.new (conditioned variable.now.number true)
-        answers.new.with_true }
-    ensures knows_false { AreAnswers m.new (conditioned variable.now.number false)
-        answers.new.with_false }
-    ensures serves { Serves c.new m.new }
+    ensures step { IsStep m.old m.new fork.now.node c.new }
+    ensures knows { AreForgetAnswers m.new variable.now.number answers.new }
     ensures rule { IfErr result (λ e. KeepsRule m.new e) }
-    ensures table { IsTable m.new }
 {
     let yes = Condition {
         variable: variable.number,

@@ -41,15 +41,14 @@ forget_here-requires-clause-serves c =
 
 -- nothing is kept yet
 pub forget_here-requires-clause-knows : goal.forget_here-requires-clause-knows
-forget_here-requires-clause-knows c = c.new.ensures c.args.m.now (forgotten c.args.variable)
-
-pub forget_here-requires-clause-knows_true : goal.forget_here-requires-clause-knows_true
-forget_here-requires-clause-knows_true c =
-    c.new-2.ensures c.args.m.now (conditioned c.args.variable true)
-
-pub forget_here-requires-clause-knows_false : goal.forget_here-requires-clause-knows_false
-forget_here-requires-clause-knows_false c =
-    c.new-3.ensures c.args.m.now (conditioned c.args.variable false)
+forget_here-requires-clause-knows c =
+    let m = c.args.m.now in
+    let x = c.args.variable in
+    record {
+      alone = c.new.ensures m (forgotten x);
+      where_true = c.new-2.ensures m (conditioned x true);
+      where_false = c.new-3.ensures m (conditioned x false);
+    }
 
 -- the root is there, and the node is below it
 pub place_with_children-fork-requires-clause-at : goal.place_with_children-fork-requires-clause-at
@@ -80,16 +79,16 @@ returns-then-not-is_over-clause-ok c =
 pub returns-in_err-code-clause-grown : goal.returns-in_err-code-clause-grown
 returns-in_err-code-clause-grown c =
     let p = c.place_with_children-fork in
-    both_lowest c.args.m.now c.forget_here.new.m c.forget_here.ensures.kept
+    both_lowest c.args.m.now c.forget_here.new.m c.forget_here.ensures.step.kept
     c.epoch-epoch.ensures.table.numbered p.result.node c.args.a c.args.a
-    (λ n there x y. p.ensures.lowest n there x) c.forget_here.ensures.grown
+    (λ n there x y. p.ensures.lowest n there x) c.forget_here.ensures.step.grown
 
 pub returns-clause-grown : goal.returns-clause-grown
 returns-clause-grown c =
     let p = c.place_with_children-fork in
-    both_lowest c.args.m.now c.forget_here.new.m c.forget_here.ensures.kept
+    both_lowest c.args.m.now c.forget_here.new.m c.forget_here.ensures.step.kept
     c.epoch-epoch.ensures.table.numbered p.result.node c.args.a c.args.a
-    (λ n there x y. p.ensures.lowest n there x) c.forget_here.ensures.grown
+    (λ n there x y. p.ensures.lowest n there x) c.forget_here.ensures.step.grown
 
 -- the answer is right to keep
 pub returns-clause-serves : goal.returns-clause-serves
@@ -98,10 +97,10 @@ returns-clause-serves c =
     let n = c.forget_here.new.m in
     let e = c.epoch-epoch.result in
     let x = c.args.variable in
-    let k = c.forget_here.ensures.kept in
+    let k = c.forget_here.ensures.step.kept in
     serves_keep c.forget_here.new.c c.keep.new.self n (call e 5 c.a-2.inside.0 (2 * x)) c.code.inside.0
     c.keep.result c.keep.ensures.keeps c.keep.ensures.err c.keep.ensures.late
-    (c.epoch-epoch.ensures.epoch ∙ sym k.epoch) c.forget_here.ensures.serves
+    (c.epoch-epoch.ensures.epoch ∙ sym k.epoch) c.forget_here.ensures.step.serves
     (forget_right m n k e c.args.a (2 * x) c.a-2.inside.0 (2 * x) c.in_ok-code.code c.code.inside.0 x
     c.a-2.view_is refl c.code.view_is
     (literal_on m n k (2 * x) x true

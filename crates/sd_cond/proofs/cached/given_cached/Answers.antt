@@ -74,16 +74,16 @@ returns-then-not-is_over-clause-ok c =
 pub returns-in_err-code-clause-grown : goal.returns-in_err-code-clause-grown
 returns-in_err-code-clause-grown c =
     let p = c.place_with_children-fork in
-    both_lowest c.args.m.now c.given_here.new.m c.given_here.ensures.kept
+    both_lowest c.args.m.now c.given_here.new.m c.given_here.ensures.step.kept
     c.epoch-epoch.ensures.table.numbered p.result.node c.args.a c.args.a
-    (λ n there x y. p.ensures.lowest n there x) c.given_here.ensures.grown
+    (λ n there x y. p.ensures.lowest n there x) c.given_here.ensures.step.grown
 
 pub returns-clause-grown : goal.returns-clause-grown
 returns-clause-grown c =
     let p = c.place_with_children-fork in
-    both_lowest c.args.m.now c.given_here.new.m c.given_here.ensures.kept
+    both_lowest c.args.m.now c.given_here.new.m c.given_here.ensures.step.kept
     c.epoch-epoch.ensures.table.numbered p.result.node c.args.a c.args.a
-    (λ n there x y. p.ensures.lowest n there x) c.given_here.ensures.grown
+    (λ n there x y. p.ensures.lowest n there x) c.given_here.ensures.step.grown
 
 -- the answer is right to keep
 pub returns-clause-serves : goal.returns-clause-serves
@@ -92,12 +92,12 @@ returns-clause-serves c =
     let n = c.given_here.new.m in
     let e = c.epoch-epoch.result in
     let l = c.args.literal in
-    let k = c.given_here.ensures.kept in
+    let k = c.given_here.ensures.step.kept in
     serves_keep c.given_here.new.c c.keep.new.self n (call e 4 c.a-2.inside.0 c.literal.inside.0)
     c.code.inside.0
     c.keep.result c.keep.ensures.keeps c.keep.ensures.err c.keep.ensures.late
     (c.epoch-epoch.ensures.epoch ∙ sym k.epoch)
-    c.given_here.ensures.serves
+    c.given_here.ensures.step.serves
     (given_right m n k e c.args.a l c.a-2.inside.0 c.literal.inside.0 c.in_ok-code.code
     c.code.inside.0 c.variable-variable.result c.is_positive-positive.result c.a-2.view_is
     c.literal.view_is c.code.view_is

@@ -11,18 +11,17 @@ use Rattle.sd_apply.specs.Places.{width}
 use Rattle.sd_apply.specs.Elements.{AreListedElements, HasList}
 use Rattle.sd_apply.proofs.Trees.{width_positive, left_there, right_there}
 use Rattle.sd_apply.proofs.Listed.{width_on, there_on, below_on, children_on, pair_at}
-use Rattle.sd_apply.proofs.JoiningSteps.{first_half, second_half, grows_up}
+use Rattle.sd_apply.proofs.JoiningSteps.{first_half, second_half}
 use Rattle.sd_apply.proofs.Served.{serves_on}
-use Rattle.sd_manager.proofs.Extending.{extends_self, extends_on}
-use Rattle.sd_apply.proofs.Growing.{grows_both, grows_over}
+use Rattle.sd_manager.proofs.Extending.{extends_self}
 use Rattle.sd_apply.proofs.Rows.{prime_below, sub_below, paired_at}
 use Rattle.sd_apply.proofs.Expanding.{own_listed}
 use Rattle.sd_cond.specs.Calls.{conditioned, AnswersOf, FixesPairs}
-use Rattle.sd_cond.proofs.Steps.{left_step, right_step, still}
-use Rattle.sd_cond.proofs.ByHalves.{below_place, half_of, half_given, half_below, apart_leaf, made_given, grown_twice}
+use Rattle.sd_cond.proofs.Steps.{step_on, step_wider, left_next, right_step, right_next}
+use Rattle.sd_cond.proofs.ByHalves.{below_place, half_of, half_given, half_below, apart_leaf, made_given}
 use Rattle.sd_cond.proofs.Answering.{below_each}
 use Rattle.sd_cond.proofs.Answering.{answer_kept, answer_found, answers_on, below_node}
-use Rattle.sd_cond.proofs.Answering.{other_side, place_each, outside_own, tells_on, leaf_on, wider_on}
+use Rattle.sd_cond.proofs.Answering.{other_side, place_each, outside_own, tells_on, leaf_on}
 use Rattle.sd_cond.proofs.Elements.{pairs_skip, pairs_push, pairs_done, prime_possible, fixed_list}
 use Rattle.sd_cond.proofs.Elements.{listed_partition, compressed_answers, same_answers}
 use Rattle.sd_cond.proofs.conditioning.+given.Goals as goal
@@ -45,24 +44,18 @@ given_at-returns-then-not-is_over-clause-ok t c =
     (c.is_over.ensures.tells.apart c.if-not-is_over.true)
     (place_each c.args.m.now c.vtree.ensures.table p.result.node c.args.a p.ensures.there p.ensures.place)
 
--- where new nodes stand
-pub given_at-returns-in_err-code-clause-grown : goal.given_at-returns-in_err-code-clause-grown
-given_at-returns-in_err-code-clause-grown t c =
-    let p = c.place_with_children-fork in
-    wider_on c.args.m.now c.given_here.new.m c.given_here.ensures.kept c.vtree.ensures.table
-    p.result.node c.args.at p.ensures.under c.given_here.ensures.grown
+-- what the call below left, at the wider vtree node
+pub given_at-returns-in_err-code-clause-step : goal.given_at-returns-in_err-code-clause-step
+given_at-returns-in_err-code-clause-step t c =
+    step_wider c.vtree.ensures.table c.place_with_children-fork.ensures.under c.given_here.ensures.step
 
-pub given_at-returns-in_default-keep-clause-grown : goal.given_at-returns-in_default-keep-clause-grown
-given_at-returns-in_default-keep-clause-grown t c =
-    let p = c.place_with_children-fork in
-    wider_on c.args.m.now c.given_here.new.m c.given_here.ensures.kept c.vtree.ensures.table
-    p.result.node c.args.at p.ensures.under c.given_here.ensures.grown
+pub given_at-returns-in_default-keep-clause-step : goal.given_at-returns-in_default-keep-clause-step
+given_at-returns-in_default-keep-clause-step t c =
+    step_wider c.vtree.ensures.table c.place_with_children-fork.ensures.under c.given_here.ensures.step
 
-pub given_at-returns-clause-grown : goal.given_at-returns-clause-grown
-given_at-returns-clause-grown t c =
-    let p = c.place_with_children-fork in
-    wider_on c.args.m.now c.given_here.new.m c.given_here.ensures.kept c.vtree.ensures.table
-    p.result.node c.args.at p.ensures.under c.given_here.ensures.grown
+pub given_at-returns-clause-step : goal.given_at-returns-clause-step
+given_at-returns-clause-step t c =
+    step_wider c.vtree.ensures.table c.place_with_children-fork.ensures.under c.given_here.ensures.step
 
 -- what is kept then
 pub given_at-returns-in_default-keep-clause-knows :
@@ -72,7 +65,7 @@ given_at-returns-in_default-keep-clause-knows t c =
     let n = c.given_here.new.m in
     let f = conditioned c.args.condition.now.variable c.args.condition.now.positive in
     c.keep.ensures n f c.given_here.ensures.knows
-    (answer_found m n c.given_here.ensures.kept f c.args.a c.in_ok-code.code
+    (answer_found m n c.given_here.ensures.step.kept f c.args.a c.in_ok-code.code
     (below_node m c.args.at c.args.a c.requires.a) c.in_ok-code.ensures.ok)
 
 pub given_at-returns-clause-knows : goal.given_at-returns-clause-knows
@@ -81,7 +74,7 @@ given_at-returns-clause-knows t c =
     let n = c.given_here.new.m in
     let f = conditioned c.args.condition.now.variable c.args.condition.now.positive in
     c.keep.ensures n f c.given_here.ensures.knows
-    (answer_found m n c.given_here.ensures.kept f c.args.a c.in_ok-code.code
+    (answer_found m n c.given_here.ensures.step.kept f c.args.a c.in_ok-code.code
     (below_node m c.args.at c.args.a c.requires.a) c.in_ok-code.ensures.ok)
 
 -- ---- by halves
@@ -156,7 +149,7 @@ pub given_halves-given_at-requires-2 : goal.given_halves-given_at-requires-2
 given_halves-given_at-requires-2 t c =
     let m = c.args.m.now in
     let n = c.given_at.new.m in
-    let x = c.given_at.ensures.kept in
+    let x = c.given_at.ensures.step.kept in
     let h = c.args.halved.now in
     let r = c.requires.halved in
     let w = h.split.right in
@@ -173,25 +166,24 @@ given_halves-given_at-requires-2 t c =
             (
               below_on m n x w h.halves.1
                   (second_half m h.node w h.split.variable c.args.a h.halves r.halves r.below),
-              (c.given_at.ensures.knows, c.given_at.ensures.serves),
+              (c.given_at.ensures.knows, c.given_at.ensures.step.serves),
             ),
           ),
         ),
       ),
     )
 
-pub given_halves-returns-in_err-first-clause-grown : goal.given_halves-returns-in_err-first-clause-grown
-given_halves-returns-in_err-first-clause-grown t c =
+pub given_halves-returns-in_err-first-clause-step : goal.given_halves-returns-in_err-first-clause-step
+given_halves-returns-in_err-first-clause-step t c =
     let h = c.args.halved.now in
-    grows_up c.args.m.now c.given_at.new.m c.given_at.ensures.kept c.requires.table.numbered h.node h.split.left
-    h.split.right c.requires.halved.split.children c.given_at.ensures.grown
+    right_step h.node h.split.left h.split.right c.requires.halved.split.children c.given_at.ensures.step
 
-pub given_halves-returns-in_err-second-clause-grown : goal.given_halves-returns-in_err-second-clause-grown
-given_halves-returns-in_err-second-clause-grown t c =
+pub given_halves-returns-in_err-second-clause-step : goal.given_halves-returns-in_err-second-clause-step
+given_halves-returns-in_err-second-clause-step t c =
     let h = c.args.halved.now in
-    grown_twice c.args.m.now c.given_at.new.m c.given_at-2.new.m c.given_at.ensures.kept c.given_at-2.ensures.kept
-    c.requires.table c.given_at.ensures.table h.node h.split.left h.split.right c.requires.halved.split.children
-    c.given_at.ensures.grown c.given_at-2.ensures.grown
+    let children = c.requires.halved.split.children in
+    right_next h.node h.split.left h.split.right children
+    (right_step h.node h.split.left h.split.right children c.given_at.ensures.step) c.given_at-2.ensures.step
 
 pub given_halves-make_halves-requires-clause-first : goal.given_halves-make_halves-requires-clause-first
 given_halves-make_halves-requires-clause-first t c =
@@ -199,8 +191,8 @@ given_halves-make_halves-requires-clause-first t c =
     let k = c.args.condition.now in
     let h = c.args.halved.now in
     let r = c.requires.halved in
-    half_below m c.given_at.new.m c.given_at-2.new.m c.requires.table c.given_at.ensures.kept c.given_at-2.ensures.kept
-    h.split.right k.variable k.positive h.halves.0 c.in_ok-first.first c.requires.variable
+    half_below m c.given_at.new.m c.given_at-2.new.m c.requires.table c.given_at.ensures.step.kept
+    c.given_at-2.ensures.step.kept h.split.right k.variable k.positive h.halves.0 c.in_ok-first.first c.requires.variable
     (first_half m h.node h.split.right h.split.variable c.args.a h.halves r.halves r.below) c.in_ok-first.ensures.ok
 
 pub given_halves-make_halves-requires-clause-second : goal.given_halves-make_halves-requires-clause-second
@@ -211,9 +203,9 @@ given_halves-make_halves-requires-clause-second t c =
     let k = c.args.condition.now in
     let h = c.args.halved.now in
     let r = c.requires.halved in
-    half_below n o o c.given_at.ensures.table c.given_at-2.ensures.kept (extends_self o)
+    half_below n o o c.given_at.ensures.step.table c.given_at-2.ensures.step.kept (extends_self o)
     h.split.right k.variable k.positive h.halves.1 c.in_ok-second.second c.requires.variable
-    (below_on m n c.given_at.ensures.kept h.split.right h.halves.1
+    (below_on m n c.given_at.ensures.step.kept h.split.right h.halves.1
     (second_half m h.node h.split.right h.split.variable c.args.a h.halves r.halves r.below)) c.in_ok-second.ensures.ok
 
 pub given_halves-returns-clause-ok : goal.given_halves-returns-clause-ok
@@ -233,36 +225,31 @@ given_halves-returns-clause-ok t c =
     IfOk-weaker c.make_halves.result
     (λ z. MakesHalves o q h.split.right h.split.variable c.in_ok-first.first c.in_ok-second.second z)
     (λ z. AnswersOf m q (conditioned k.variable k.positive) c.args.a z)
-    (λ z made. made_given m n o q c.given_at.ensures.kept c.given_at-2.ensures.kept h.node h.split.right k.variable
-    h.split.variable k.positive c.args.a c.in_ok-first.first c.in_ok-second.second z h.halves c.requires.variable differ
+    (λ z made. made_given m n o q c.given_at.ensures.step.kept c.given_at-2.ensures.step.kept h.node h.split.right
+    k.variable h.split.variable k.positive c.args.a c.in_ok-first.first c.in_ok-second.second z h.halves c.requires.variable differ
     r.halves (below_each m i h.node c.args.a r.below) c.in_ok-first.ensures.ok c.in_ok-second.ensures.ok made)
     c.make_halves.ensures.ok
 
-pub given_halves-returns-clause-kept : goal.given_halves-returns-clause-kept
-given_halves-returns-clause-kept t c =
-    extends_on c.args.m.now c.given_at-2.new.m c.make_halves.new.m
-    (extends_on c.args.m.now c.given_at.new.m c.given_at-2.new.m c.given_at.ensures.kept c.given_at-2.ensures.kept)
-    c.make_halves.ensures.kept
-
-pub given_halves-returns-clause-grown : goal.given_halves-returns-clause-grown
-given_halves-returns-clause-grown t c =
+pub given_halves-returns-clause-step : goal.given_halves-returns-clause-step
+given_halves-returns-clause-step t c =
     let h = c.args.halved.now in
-    grows_both c.args.m.now c.given_at-2.new.m c.make_halves.new.m h.node c.make_halves.ensures.kept
-    (grown_twice c.args.m.now c.given_at.new.m c.given_at-2.new.m c.given_at.ensures.kept c.given_at-2.ensures.kept
-    c.requires.table c.given_at.ensures.table h.node h.split.left h.split.right c.requires.halved.split.children
-    c.given_at.ensures.grown c.given_at-2.ensures.grown)
-    c.make_halves.ensures.grown
+    let children = c.requires.halved.split.children in
+    let made = c.make_halves.ensures in
+    step_on (right_next h.node h.split.left h.split.right children
+    (right_step h.node h.split.left h.split.right children c.given_at.ensures.step) c.given_at-2.ensures.step)
+    (record {
+      kept = made.kept;
+      grown = made.grown;
+      serves = serves_on c.given_at-2.new.c c.given_at-2.new.m c.make_halves.new.m made.kept
+          c.given_at-2.ensures.step.serves;
+      table = made.table;
+    })
 
 pub given_halves-returns-clause-knows : goal.given_halves-returns-clause-knows
 given_halves-returns-clause-knows t c =
     answers_on c.given_at-2.new.m c.make_halves.new.m c.make_halves.ensures.kept
     (conditioned c.args.condition.now.variable c.args.condition.now.positive) c.given_at-2.new.kept
     c.given_at-2.ensures.knows
-
-pub given_halves-returns-clause-serves : goal.given_halves-returns-clause-serves
-given_halves-returns-clause-serves t c =
-    serves_on c.given_at-2.new.c c.given_at-2.new.m c.make_halves.new.m c.make_halves.ensures.kept
-    c.given_at-2.ensures.serves
 
 -- the elements of a decomposition
 pub given_elements-given_pairs-requires : goal.given_elements-given_pairs-requires
@@ -294,14 +281,6 @@ given_elements-given_pairs-requires t c =
       ),
     )
 
-pub given_elements-returns-in_err-pairs-clause-grown : goal.given_elements-returns-in_err-pairs-clause-grown
-given_elements-returns-in_err-pairs-clause-grown t c =
-    let m = c.args.m.now in
-    let n = c.given_pairs.new.m in
-    grows_over m n c.given_pairs.ensures.table.numbered c.args.fork.now.node c.args.fork.now.left c.args.fork.now.right
-    (children_on m n c.given_pairs.ensures.kept c.args.fork.now.node c.args.fork.now.left c.args.fork.now.right
-    c.requires.children) c.given_pairs.ensures.grown
-
 pub given_elements-compress-requires-clause-partition : goal.given_elements-compress-requires-clause-partition
 given_elements-compress-requires-clause-partition t c =
     let m = c.args.m.now in
@@ -319,8 +298,8 @@ given_elements-compress-requires-clause-partition t c =
     let P : List (ℕ × ℕ) → Type 0 = λ l. IsPartitionAt n p l h.shown in (
       h.shown,
       subst P (sym c.as_slice-fixed.ensures)
-          (listed_partition n c.given_pairs.ensures.table p u w
-          (children_on m n c.given_pairs.ensures.kept p u w c.requires.children)
+          (listed_partition n c.given_pairs.ensures.step.table p u w
+          (children_on m n c.given_pairs.ensures.step.kept p u w c.requires.children)
           c.in_ok-pairs.pairs.items
           (conditioned c.args.condition.now.variable c.args.condition.now.positive x.diagram) h),
     )
@@ -340,17 +319,9 @@ given_elements-returns-then-are_same-clause-ok t c =
     let list : (d : Diagram) → ShowsCanonical m c.args.a d → HasList n u w pairs (λ g. f d g ∷ []) = λ d sd.
     fixed_list m n c.requires.table c.args.condition.now.variable c.args.condition.now.positive p u w c.args.a pairs
     c.requires.children c.requires.place c.requires.code fixes d sd in
-    same_answers m n c.requires.table c.given_pairs.ensures.table c.given_pairs.ensures.kept f p u w
+    same_answers m n c.requires.table c.given_pairs.ensures.step.table c.given_pairs.ensures.step.kept f p u w
     c.args.a pairs c.requires.children c.requires.place c.requires.code list
     (sym c.as_slice-fixed.ensures ∙ c.are_same.ensures c.if-are_same.true ∙ own)
-
-pub given_elements-returns-then-are_same-clause-grown : goal.given_elements-returns-then-are_same-clause-grown
-given_elements-returns-then-are_same-clause-grown t c =
-    let m = c.args.m.now in
-    let n = c.given_pairs.new.m in
-    grows_over m n c.given_pairs.ensures.table.numbered c.args.fork.now.node c.args.fork.now.left c.args.fork.now.right
-    (children_on m n c.given_pairs.ensures.kept c.args.fork.now.node c.args.fork.now.left c.args.fork.now.right
-    c.requires.children) c.given_pairs.ensures.grown
 
 pub given_elements-returns-clause-ok : goal.given_elements-returns-clause-ok
 given_elements-returns-clause-ok t c =
@@ -369,20 +340,20 @@ given_elements-returns-clause-ok t c =
     c.requires.children c.requires.place c.requires.code fixes d sd in
     IfOk-weaker c.compress.result (λ r. Compresses n o p c.as_slice-fixed.result.now r)
     (λ r. AnswersOf m o f c.args.a r)
-    (λ r h. compressed_answers m n o c.given_pairs.ensures.table f p u w c.args.a r pairs
-    (children_on m n c.given_pairs.ensures.kept p u w c.requires.children) list
+    (λ r h. compressed_answers m n o c.given_pairs.ensures.step.table f p u w c.args.a r pairs
+    (children_on m n c.given_pairs.ensures.step.kept p u w c.requires.children) list
     (subst (λ l. Compresses n o p l r) c.as_slice-fixed.ensures h))
     c.compress.ensures.ok
 
-pub given_elements-returns-clause-grown : goal.given_elements-returns-clause-grown
-given_elements-returns-clause-grown t c =
-    let m = c.args.m.now in
-    let n = c.given_pairs.new.m in
-    grows_both m n c.compress.new.m c.args.fork.now.node c.compress.ensures.kept
-    (grows_over m n c.given_pairs.ensures.table.numbered c.args.fork.now.node c.args.fork.now.left c.args.fork.now.right
-    (children_on m n c.given_pairs.ensures.kept c.args.fork.now.node c.args.fork.now.left c.args.fork.now.right
-    c.requires.children) c.given_pairs.ensures.grown)
-    c.compress.ensures.grown
+pub given_elements-returns-clause-step : goal.given_elements-returns-clause-step
+given_elements-returns-clause-step t c =
+    let made = c.compress.ensures in
+    step_on c.given_pairs.ensures.step (record {
+      kept = made.kept;
+      grown = made.grown;
+      serves = made.serves;
+      table = made.table;
+    })
 
 pub given_elements-returns-clause-knows : goal.given_elements-returns-clause-knows
 given_elements-returns-clause-knows t c =
@@ -395,7 +366,7 @@ pub given_primes-given_at-requires : goal.given_primes-given_at-requires
 given_primes-given_at-requires t c =
     let m0 = c.args.m.now in
     let m = c.loop-i.m in
-    let x = c.loop-i.invariant.step.extends in
+    let x = c.loop-i.invariant.step.kept in
     let u = c.args.fork.now.left in
     let w = c.args.fork.now.right in
     let l = c.args.list.now in
@@ -417,7 +388,7 @@ given_primes-given_at-requires t c =
             subst (λ v. IsUnder v c.args.condition.now.leaf u) (sym x.vtree) (c.requires.left.over refl),
             (
               prime_below m0 m x u w e one,
-              (c.loop-i.invariant.step.knows, c.loop-i.invariant.step.serves),
+              (c.loop-i.invariant.knows, c.loop-i.invariant.step.serves),
             ),
           ),
         ),
@@ -434,41 +405,47 @@ given_primes-loop-i-preserved t c =
     let x = c.args.condition.now.variable in
     let s = c.args.condition.now.positive in
     let leaf = c.args.condition.now.leaf in
-    let f = conditioned x s in
     let e : ℕ × ℕ = (
       (get_or l i c.index-list-i.result).0,
       (get_or l i c.index-list-i-in-loop-i.result).1,
     ) in
     let at = pair_at l i c.index-list-i.result c.index-list-i-in-loop-i.result c.loop-i-test.true in
     let a = c.given_at in
-    let first = left_step c.loop-i.m a.new.m f a.new.kept a.new.c u w a.ensures.kept a.ensures.knows
-    a.ensures.serves a.ensures.table a.ensures.grown in
+    let p = c.args.fork.now.node in
+    let step = left_next p u w c.requires.children c.loop-i.invariant.step a.ensures.step in
     elim c.if-not-is_false.branch [
       | given_primes-then-not-is_false+in_ok-push k ↦
-          let n = extends_on m0 c.loop-i.m a.new.m c.loop-i.invariant.step.extends a.ensures.kept in
+          let n = step.kept in
           let one = paired_at m0 u w l i e c.requires.list c.loop-i-test.true at in
-          let same = other_side a.new.m a.ensures.table w leaf x s e.1
-          (there_on m0 a.new.m n w (right_there m0.vtree c.requires.table.numbered c.args.fork.now.node u w
-          c.requires.children))
+          let same = other_side a.new.m step.table w leaf x s e.1
+          (there_on m0 a.new.m n w (right_there m0.vtree c.requires.table.numbered p u w c.requires.children))
           (leaf_on m0 a.new.m n leaf x c.requires.leaf)
           ((tells_on m0 a.new.m n leaf w false c.requires.right).apart refl) (sub_below m0 a.new.m n u w e one) in
           rw k.pairs-is
-          (pairs_push m0 c.loop-i.m a.new.m a.new.m c.loop-i.kept a.new.kept
-          a.new.kept c.loop-i.c a.new.c a.new.c x s u w l c.loop-i.pairs.items
-          k.push.new.pairs.items i e c.in_ok-fixed.fixed e.1 c.requires.variable
-          c.loop-i.invariant first (still a.new.m f a.new.kept a.new.c u w a.ensures.knows a.ensures.serves
-          a.ensures.table) c.loop-i-test.true at c.in_ok-fixed.ensures.ok
-          (search rules) same k.in_ok-push.ensures.ok)
+          (pairs_push m0 c.loop-i.m a.new.m a.new.m p c.loop-i.kept a.new.kept c.loop-i.c a.new.c x s u w l
+          c.loop-i.pairs.items k.push.new.pairs.items i e c.in_ok-fixed.fixed e.1 c.requires.variable
+          c.loop-i.invariant a.ensures.step.kept (extends_self a.new.m) step a.ensures.knows c.loop-i-test.true at
+          c.in_ok-fixed.ensures.ok (search rules) same k.in_ok-push.ensures.ok)
       | given_primes-else-not-is_false k ↦
           rw k.pairs-is
-          (pairs_skip m0 c.loop-i.m a.new.m c.loop-i.kept a.new.kept c.loop-i.c a.new.c
-          x s u w l c.loop-i.pairs.items i e c.in_ok-fixed.fixed c.loop-i.invariant first
-          c.loop-i-test.true at c.in_ok-fixed.ensures.ok (search rules))
+          (pairs_skip m0 c.loop-i.m a.new.m p c.loop-i.kept a.new.kept c.loop-i.c a.new.c
+          x s u w l c.loop-i.pairs.items i e c.in_ok-fixed.fixed c.loop-i.invariant a.ensures.step.kept step
+          a.ensures.knows c.loop-i-test.true at c.in_ok-fixed.ensures.ok (search rules))
     ]
+
+pub given_primes-returns-in_err-fixed-clause-step : goal.given_primes-returns-in_err-fixed-clause-step
+given_primes-returns-in_err-fixed-clause-step t c =
+    let f = c.args.fork.now in
+    left_next f.node f.left f.right c.requires.children c.loop-i.invariant.step c.given_at.ensures.step
+
+pub given_primes-returns-in_err-push-clause-step : goal.given_primes-returns-in_err-push-clause-step
+given_primes-returns-in_err-push-clause-step t c =
+    let f = c.args.fork.now in
+    left_next f.node f.left f.right c.requires.children c.loop-i.invariant.step c.given_at.ensures.step
 
 pub given_primes-returns-clause-ok : goal.given_primes-returns-clause-ok
 given_primes-returns-clause-ok t c =
-    pairs_done c.args.m.now c.loop-i.m c.loop-i.kept c.loop-i.c c.args.condition.now.variable
+    pairs_done c.args.m.now c.loop-i.m c.args.fork.now.node c.loop-i.kept c.loop-i.c c.args.condition.now.variable
     c.args.condition.now.positive
     c.args.fork.now.left c.args.fork.now.right c.args.list.now c.loop-i.pairs.items c.loop-i.i c.loop-i.invariant
     c.loop-i-test.false c.loop-i.auto.i-end
@@ -478,7 +455,7 @@ pub given_subs-given_at-requires : goal.given_subs-given_at-requires
 given_subs-given_at-requires t c =
     let m0 = c.args.m.now in
     let m = c.loop-i.m in
-    let x = c.loop-i.invariant.step.extends in
+    let x = c.loop-i.invariant.step.kept in
     let u = c.args.fork.now.left in
     let w = c.args.fork.now.right in
     let l = c.args.list.now in
@@ -500,7 +477,7 @@ given_subs-given_at-requires t c =
             subst (λ v. IsUnder v c.args.condition.now.leaf w) (sym x.vtree) (c.requires.right.over refl),
             (
               sub_below m0 m x u w e one,
-              (c.loop-i.invariant.step.knows, c.loop-i.invariant.step.serves),
+              (c.loop-i.invariant.knows, c.loop-i.invariant.step.serves),
             ),
           ),
         ),
@@ -517,7 +494,6 @@ given_subs-loop-i-preserved t c =
     let x = c.args.condition.now.variable in
     let s = c.args.condition.now.positive in
     let leaf = c.args.condition.now.leaf in
-    let f = conditioned x s in
     let e : ℕ × ℕ = (
       (get_or l i c.index-list-i.result).0,
       (get_or l i c.index-list-i-in-loop-i.result).1,
@@ -526,28 +502,31 @@ given_subs-loop-i-preserved t c =
     let k = c.loop-i in
     let h = k.invariant.step in
     let a = c.given_at in
-    let second = right_step k.m a.new.m f a.new.kept a.new.c u w a.ensures.kept a.ensures.knows
-    a.ensures.serves a.ensures.table a.ensures.grown in
+    let p = c.args.fork.now.node in
+    let step = right_next p u w c.requires.children h a.ensures.step in
     let one = paired_at m0 u w l i e c.requires.list c.loop-i-test.true at in
     let same = other_side k.m h.table u leaf x s e.0
-    (there_on m0 k.m h.extends u (left_there m0.vtree c.requires.table.numbered c.args.fork.now.node u w
-    c.requires.children))
-    (leaf_on m0 k.m h.extends leaf x c.requires.leaf)
-    ((tells_on m0 k.m h.extends leaf u false c.requires.left).apart refl) (prime_below m0 k.m h.extends u w e one) in
-    pairs_push m0 k.m k.m a.new.m k.kept k.kept a.new.kept k.c k.c a.new.c x s u w l k.pairs.items
-    c.push.new.pairs.items i e e.0 c.in_ok-value.value c.requires.variable
-    k.invariant (still k.m f k.kept k.c u w h.knows h.serves h.table) second c.loop-i-test.true at same
-    (prime_possible m0 c.requires.table u w e one) c.in_ok-value.ensures.ok c.in_ok-push.ensures.ok
+    (there_on m0 k.m h.kept u (left_there m0.vtree c.requires.table.numbered p u w c.requires.children))
+    (leaf_on m0 k.m h.kept leaf x c.requires.leaf)
+    ((tells_on m0 k.m h.kept leaf u false c.requires.left).apart refl) (prime_below m0 k.m h.kept u w e one) in
+    pairs_push m0 k.m k.m a.new.m p k.kept a.new.kept k.c a.new.c x s u w l k.pairs.items
+    c.push.new.pairs.items i e e.0 c.in_ok-value.value c.requires.variable k.invariant (extends_self k.m)
+    a.ensures.step.kept step a.ensures.knows c.loop-i-test.true at same (prime_possible m0 c.requires.table u w e one)
+    c.in_ok-value.ensures.ok c.in_ok-push.ensures.ok
+
+pub given_subs-returns-in_err-value-clause-step : goal.given_subs-returns-in_err-value-clause-step
+given_subs-returns-in_err-value-clause-step t c =
+    let f = c.args.fork.now in
+    right_next f.node f.left f.right c.requires.children c.loop-i.invariant.step c.given_at.ensures.step
+
+pub given_subs-returns-in_err-push-clause-step : goal.given_subs-returns-in_err-push-clause-step
+given_subs-returns-in_err-push-clause-step t c =
+    let f = c.args.fork.now in
+    right_next f.node f.left f.right c.requires.children c.loop-i.invariant.step c.given_at.ensures.step
 
 pub given_subs-returns-clause-ok : goal.given_subs-returns-clause-ok
 given_subs-returns-clause-ok t c =
-    pairs_done c.args.m.now c.loop-i.m c.loop-i.kept c.loop-i.c c.args.condition.now.variable
+    pairs_done c.args.m.now c.loop-i.m c.args.fork.now.node c.loop-i.kept c.loop-i.c c.args.condition.now.variable
     c.args.condition.now.positive
     c.args.fork.now.left c.args.fork.now.right c.args.list.now c.loop-i.pairs.items c.loop-i.i c.loop-i.invariant
     c.loop-i-test.false c.loop-i.auto.i-end
-
--- what is kept of the nodes
-pub given_elements-returns-clause-kept : goal.given_elements-returns-clause-kept
-given_elements-returns-clause-kept t c =
-    extends_on c.args.m.now c.given_pairs.new.m c.compress.new.m c.given_pairs.ensures.kept
-    c.compress.ensures.kept

@@ -29,10 +29,10 @@ decreases-given_subs l = 5 * (width l.m.now.vtree l.fork.now.left + width l.m.no
 
 abbrev pub invariant-given_primes-loop-i : goal.invariant-given_primes-loop-i
 invariant-given_primes-loop-i l =
-    InPairs l.fn.m l.m l.kept l.c l.condition.variable l.condition.positive l.fork.left l.fork.right
+    InPairs l.fn.m l.m l.fork.node l.kept l.c l.condition.variable l.condition.positive l.fork.left l.fork.right
     l.list l.pairs.items l.i
 
 abbrev pub invariant-given_subs-loop-i : goal.invariant-given_subs-loop-i
 invariant-given_subs-loop-i l =
-    InPairs l.fn.m l.m l.kept l.c l.condition.variable l.condition.positive l.fork.left l.fork.right
+    InPairs l.fn.m l.m l.fork.node l.kept l.c l.condition.variable l.condition.positive l.fork.left l.fork.right
     l.list l.pairs.items l.i

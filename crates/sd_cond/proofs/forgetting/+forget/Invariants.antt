@@ -16,5 +16,4 @@ decreases-forget_subs l = 3 * (width l.m.now.vtree l.fork.now.left + width l.m.n
 
 abbrev pub invariant-forget_subs-loop-i : goal.invariant-forget_subs-loop-i
 invariant-forget_subs-loop-i l =
-    InSubs l.fn.m l.m l.answers.forgotten l.answers.with_true l.answers.with_false l.c l.variable.number
-    l.fork.left l.fork.right l.list l.pairs.items l.i
+    InSubs l.fn.m l.m l.fork.node l.answers l.c l.variable.number l.fork.left l.fork.right l.list l.pairs.items l.i
