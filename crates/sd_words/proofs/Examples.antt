@@ -3,7 +3,7 @@ use Rattle.std.proofs.Common.{◌≡◌, refl, true, false, List, [], ◌∷◌,
 use Rattle.std.specs.Prelude.{⊤}
 use Rattle.clap.specs.Walk.{Text}
 use Rattle.clap.proofs.OnLiterals.{clap_on_literals}
-use Rattle.sd_words.specs.Command.{parsed_by, sddc}
+use Rattle.sd_words.specs.Command.{parsed_by, sddc, usage_faults}
 use Rattle.sd_words.specs.JobOf.{job_from, job_of_parsed, job_of}
 use Rattle.sd_words.specs.Ordinary.{Setting, can_stand_apart}
 use Rattle.sd_words.specs.declared.jobs.InputWord.TheVariants as input
@@ -14,7 +14,7 @@ use Rattle.sd_words.proofs.OrdinaryLaw.{ordinary_values_kept}
 
 -- all that has to unfold for the words of an example
 unfoldable job_on_literals : ⊤
-unfolding clap_on_literals job_of parsed_by sddc job_from job_of_parsed
+unfolding clap_on_literals job_of usage_faults parsed_by sddc job_from job_of_parsed
 job_on_literals = tt
 
 no_words : job_of [] ≡ Err (codes "no input")

@@ -26,11 +26,13 @@ flag_option word = record (new_rule word) { long = Some word; action = Some SetT
 abbrev pub option_rule : Text → Rule
 option_rule word = if is_flag word then flag_option word else text_option word
 
--- `Command::new("sddc")` with `disable_help_flag(true)` and `disable_version_flag(true)`, and with `arg` of each option
+-- `Command::new("sddc")` with `disable_help_flag(true)` and `disable_version_flag(true)`, before it has options
+abbrev pub bare_sddc : App
+bare_sddc = on_top (λ s. record s { disable_help_flag = true; disable_version_flag = true }) (new_app (codes "sddc"))
+
+-- the command: with `arg` of each option
 unfoldable pub sddc : App
-sddc = fold (λ app word. with_rule app (option_rule word)) (on_top
-    (λ s. record s { disable_help_flag = true; disable_version_flag = true })
-    (new_app (codes "sddc"))) all_options
+sddc = fold (λ app word. with_rule app (option_rule word)) bare_sddc all_options
 
 -- the text, where it is `true`
 abbrev pub if_true : Text → Option Text
@@ -39,20 +41,6 @@ if_true text = then_some (bytes_eq text (codes "true")) text
 -- what a value that `clap` has says of its option: a flag that is not there has one too, which is not `true`
 abbrev pub said_of : Text → Option Text → Option Text
 said_of option value = if is_flag option then option_and_then if_true value else value
-
--- what the words after the program's name give: the first value of each option, among what `clap` finds in them
-unfoldable pub parsed_by : List Text → ParsedOptions
-parsed_by words option = said_of option (first_of option (matches_of sddc (codes "sddc" ∷ words)))
-
--- ---- for the contracts of private functions, and for proofs
-
--- the command before it has options
-abbrev pub bare_sddc : App
-bare_sddc = on_top (λ s. record s { disable_help_flag = true; disable_version_flag = true }) (new_app (codes "sddc"))
-
--- the command with one option more
-abbrev pub with_option : App → OptionName → App
-with_option app o = with_rule app (option_rule (word_of o))
 
 -- the words as `clap` is handed them: the program's name comes first
 abbrev pub handed : List Text → List Text
@@ -66,13 +54,23 @@ usage_faults = fault_of sddc
 abbrev pub accepts : List Text → Bool
 accepts words = is_empty (usage_faults (handed words))
 
+-- what the first value of each option says, among some rows of matches
+abbrev pub parsed_in : List Row → ParsedOptions
+parsed_in rows option = said_of option (first_of option rows)
+
+-- what the words after the program's name give, among what `clap` finds in them
+unfoldable pub parsed_by : List Text → ParsedOptions
+parsed_by words = parsed_in (matches_of sddc (handed words))
+
+-- ---- for the contracts of private functions, and for proofs
+
+-- the command with one option more
+abbrev pub with_option : App → OptionName → App
+with_option app o = with_rule app (option_rule (word_of o))
+
 -- what `clap` finds in them
 unfoldable pub rows_found : List Text → List Row
 rows_found = matches_of sddc
-
--- what the first value of each option says, among some rows
-abbrev pub parsed_in : List Row → ParsedOptions
-parsed_in rows option = said_of option (first_of option rows)
 
 -- what a parse gave
 unfoldable pub parsed_of : ArgMatches → ParsedOptions

@@ -6,11 +6,9 @@ use Rattle.std.specs.Bool.{then_some}
 use Rattle.std.specs.Option.{option_and_then, option_flatten, option_map_or, option_zip}
 use Rattle.std.specs.Str.{bytes_eq}
 use Rattle.clap.specs.Walk.{Text, is_empty}
-use Rattle.clap.specs.Faults.{fault_of}
 use Rattle.sd_base.specs.Reading.{◌>>◌, fault_if, fault_for}
-use Rattle.sd_words.specs.Command.{parsed_by, sddc}
-use Rattle.sd_words.specs.Numbers.{count_and_seed}
-use Rattle.sd_words.specs.ParsedOptions.{ParsedOptions, fails, first_beside, has_bad_number}
+use Rattle.sd_words.specs.Command.{accepts, parsed_by}
+use Rattle.sd_words.specs.ParsedOptions.{ParsedOptions, fails, first_beside, generated, has_bad_number}
 use Rattle.sd_words.specs.ParsedOptions.{has_option, option_number, start_of}
 use Rattle.sd_words.specs.Options.{files, inputs, number_options, refused_by_aag, refused_by_check}
 use Rattle.sd_words.specs.Options.{refused_by_parts, refused_by_portfolio, replaced_by_script}
@@ -23,20 +21,27 @@ use Rattle.sd_words.specs.declared.jobs.Job.{Job}
 use Rattle.sd_words.specs.declared.faults.WordsFault.{WordsFault}
 use Rattle.sd_words.specs.declared.faults.WordsFault.TheVariants as fault
 
--- the input that is there; where none is, the words were refused before
-abbrev pub input_of : ParsedOptions → InputWord
-input_of parsed = option_map_or input.Cnf (parsed (codes "cnf"))
+-- the input, by the numbers of `--generate`; where none is there, the words were refused before
+abbrev pub input_by : ParsedOptions → Option (ℕ × ℕ) → InputWord
+input_by parsed numbers = option_map_or input.Cnf (parsed (codes "cnf"))
     (option_map_or input.Dnf (parsed (codes "dnf")) (option_map_or input.Aag (parsed (codes "aag"))
-    (option_map_or input.Check (parsed (codes "check")) (option_map_or (λ g. input.Generate g.0 g.1)
-    (option_and_then count_and_seed (parsed (codes "generate"))) (input.Generate 0 0)))))
+    (option_map_or input.Check (parsed (codes "check"))
+    (option_map_or (λ g. input.Generate g.0 g.1) numbers (input.Generate 0 0)))))
+
+-- the input that is there
+abbrev pub input_of : ParsedOptions → InputWord
+input_of parsed = input_by parsed (generated parsed)
+
+-- the vtree, by the values of `--vtree` and `--start`
+abbrev pub tree_word_of : Option Text → Option Text → TreeWord
+tree_word_of vtree start = option_map_or tree.File vtree (unwrap_or (option_and_then start_of start) tree.Balanced)
 
 -- The job, where nothing is refused. The vtree is that of `--vtree`, else the shape of `--start`, and balanced where
 -- neither is there. Where they are not there, the slack is 200 percent, the limit 16,777,216, and the workers one.
 unfoldable pub job_of_parsed : ParsedOptions → Job
 job_of_parsed parsed = record {
   input = input_of parsed;
-  tree = option_map_or tree.File (parsed (codes "vtree"))
-      (unwrap_or (option_and_then start_of (parsed (codes "start"))) tree.Balanced);
+  tree = tree_word_of (parsed (codes "vtree")) (parsed (codes "start"));
   script = parsed (codes "script");
   out_vtree = parsed (codes "out-vtree");
   out_sdd = parsed (codes "out-sdd");
@@ -96,7 +101,7 @@ job_from parsed = do
 -- the same of the words, where `clap` finds nothing wrong with them behind the program's name
 unfoldable pub job_of : List Text → Result Job (List ℕ)
 job_of words = do
-  fault_if (not (is_empty (fault_of sddc (codes "sddc" ∷ words)))) (codes "usage")
+  fault_if (not (accepts words)) (codes "usage")
   job_from (parsed_by words)
 
 -- the result is this answer, where a fault has its text, or memory ran out
@@ -105,17 +110,6 @@ Answers answer result = MatchResult result (λ x. answer ≡ Ok x)
     (λ f. (f ≡ fault.OutOfMemory) ⊎ (answer ≡ Err (words_fault_text f)))
 
 -- ---- for the contracts of private functions, and for proofs
-
--- the input, by the numbers of `--generate`
-abbrev pub input_by : ParsedOptions → Option (ℕ × ℕ) → InputWord
-input_by parsed numbers = option_map_or input.Cnf (parsed (codes "cnf"))
-    (option_map_or input.Dnf (parsed (codes "dnf")) (option_map_or input.Aag (parsed (codes "aag"))
-    (option_map_or input.Check (parsed (codes "check"))
-    (option_map_or (λ g. input.Generate g.0 g.1) numbers (input.Generate 0 0)))))
-
--- the vtree, by the values of `--vtree` and `--start`
-abbrev pub tree_word_of : Option Text → Option Text → TreeWord
-tree_word_of vtree start = option_map_or tree.File vtree (unwrap_or (option_and_then start_of start) tree.Balanced)
 
 -- the first fault of a list that is there
 abbrev pub first_some : List (Option WordsFault) → Option WordsFault

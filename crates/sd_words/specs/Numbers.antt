@@ -29,7 +29,3 @@ count_and_seed text = option_zip
 -- one to ten digits
 abbrev pub is_number : Text → Bool
 is_number text = not (is_empty text) && (nat_le (length text) 10 && list_all is_ascii_digit text)
-
--- both, where both are there
-abbrev pub both : Option ℕ → Option ℕ → Option (ℕ × ℕ)
-both a b = option_zip a b

@@ -35,6 +35,10 @@ abbrev pub has_bad_number : ParsedOptions → Text → Bool
 has_bad_number parsed word = if bytes_eq word (codes "generate")
     then fails count_and_seed (parsed word) else fails (number_of_text word) (parsed word)
 
+-- the number of variables and the seed of `--generate`, where it is there and has them
+abbrev pub generated : ParsedOptions → Option (ℕ × ℕ)
+generated parsed = option_and_then count_and_seed (parsed (codes "generate"))
+
 -- the shape that the value of `--start` names
 abbrev pub start_of : Text → Option TreeWord
 start_of text = if bytes_eq text (codes "balanced") then Some tree.Balanced
@@ -54,7 +58,3 @@ has_named parsed o = has_option parsed (word_of o)
 -- the first option of a list that is there beside another
 abbrev pub first_named_beside : OptionName → List OptionName → ParsedOptions → Option OptionName
 first_named_beside o others parsed = if has_named parsed o then find (has_named parsed) others else None
-
--- the number of variables and the seed of `--generate`, where it is there and has them
-abbrev pub generated : ParsedOptions → Option (ℕ × ℕ)
-generated parsed = option_and_then count_and_seed (parsed (codes "generate"))
