@@ -1,7 +1,7 @@
 -- What stands between two nodes of a subtree is in it, so a node between two that is over both is the lowest one.
-use Rattle.std.proofs.Common.{◌≡◌, ℕ, suc, ◌+◌, ◌-◌, ◌<◌, ◌≤◌, List, ◌∷◌, ◌++◌, length, Some, sym, ◌∙◌, ap, subst, arith}
+use Rattle.std.proofs.Common.{◌≡◌, ℕ, suc, ◌+◌, ◌-◌, ◌<◌, ◌≤◌, List, ◌∷◌, ◌++◌, length, Some, sym, ◌∙◌, ap, subst}
 use Rattle.std.proofs.Common.{max}
-use Rattle.std.proofs.Common.{length-append, append_assoc, slice_get}
+use Rattle.std.proofs.Common.{arith, length-append, append_assoc, slice_get}
 use Rattle.std.proofs.lemmas.Option.{same_Some, slice_get_within}
 use Rattle.sd_vtree.specs.Numbered.{Numbered, NumberedNode, numbers, subtree, times, IsNumbered, IsUnder}
 use Rattle.sd_vtree.specs.Lowest.{IsLowest}
@@ -101,7 +101,8 @@ pub lowest_alone : (t : Numbered) → IsNumbered t → (low high here n : ℕ) �
     slice_get (numbers t) high ≡ Some b → IsUnder t a at → IsUnder t b at → IsLowest t a b at n
 lowest_alone t v low high here n h x y e a b at f g u w =
     let ea : n ≡ a = same_Some n a (sym h ∙ (ap (slice_get (numbers t)) (let z : here ≡ low = omega arith in z) ∙ f)) in
-    let eb : n ≡ b = same_Some n b (sym h ∙ (ap (slice_get (numbers t)) (let z : here ≡ high = omega arith in z) ∙ g)) in
+    let eb : n ≡ b = same_Some n b (sym h
+    ∙ (ap (slice_get (numbers t)) (let z : here ≡ high = omega arith in z) ∙ g)) in
     let own = under_itself t n (times_slice_get (numbers t) here n h) in
     lowest_between t v a b n low high here at f g h x y (subst (λ k. IsUnder t k n) ea own)
     (subst (λ k. IsUnder t k n) eb own) u w

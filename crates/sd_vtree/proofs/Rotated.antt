@@ -84,10 +84,12 @@ rotated {kind} {nodes} {positions} {order} {leaf_list} {t} kept n l s s' p h is 
     number_in s n z = subst (λ k. 1 ≤ times k (numbers s)) (subtree_number t n s z) (number_of_in s)
 
 -- the numbers below a child are among those of its node
-pub below_left : (l : ℕ) (a b : Numbered) (k : ℕ) → 1 ≤ times k (numbers a) → 1 ≤ times k (numbers (NumberedNode l a b))
+pub below_left : (l : ℕ) (a b : Numbered) (k : ℕ) → 1 ≤ times k (numbers a) →
+    1 ≤ times k (numbers (NumberedNode l a b))
 below_left l a b k h = omega (arith, times_node k l (numbers a) (numbers b))
 
-pub below_right : (l : ℕ) (a b : Numbered) (k : ℕ) → 1 ≤ times k (numbers b) → 1 ≤ times k (numbers (NumberedNode l a b))
+pub below_right : (l : ℕ) (a b : Numbered) (k : ℕ) → 1 ≤ times k (numbers b) →
+    1 ≤ times k (numbers (NumberedNode l a b))
 below_right l a b k h = omega (arith, times_node k l (numbers a) (numbers b))
 
 -- a number is not both in a list and absent

@@ -10,8 +10,9 @@ use Rattle.sd_vtree.specs.Numbered.{children_at, IsNumbered}
 use Rattle.sd_vtree.specs.NumberedMoves.{moved_number}
 use Rattle.sd_vtree.specs.Stored.{HasSizes}
 use Rattle.sd_vtree.proofs.Times.{times_append}
-use Rattle.sd_vtree.proofs.Subtrees.{once_numbered, inner_part, subtree_once, subtree_number, subtree_some, subtree_split}
-use Rattle.sd_vtree.proofs.Subtrees.{number_of_in, left_apart, right_apart, once_left, once_right, way, Here, Left, Right}
+use Rattle.sd_vtree.proofs.Subtrees.{once_numbered, inner_part, subtree_once, subtree_number, subtree_some}
+use Rattle.sd_vtree.proofs.Subtrees.{subtree_split, number_of_in, left_apart, right_apart, once_left, once_right}
+use Rattle.sd_vtree.proofs.Subtrees.{way, Here, Left, Right}
 use Rattle.sd_vtree.proofs.Put.{put, sized_same}
 use Rattle.sd_vtree.proofs.Moved.{rearranged_right, rearranged_left, rearranged_swap, slice_get_set_same}
 use Rattle.sd_vtree.proofs.Moved.{slice_get_set_other}
