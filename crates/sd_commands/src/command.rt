@@ -61,7 +61,9 @@ pub enum RunCommand {
 /// A command with the number of its line, counted from 1, or 0 where it stands in no line.
 #[derive(Drop)]
 pub struct NumberedCommand {
+    /// The line, or 0.
     pub line: u32,
+    /// What is done.
     pub command: RunCommand,
 }
 

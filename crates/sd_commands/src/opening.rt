@@ -31,6 +31,7 @@ use std::thread::Threads;
 /// Why a run is not opened.
 #[derive(Drop)]
 pub struct OpeningError {
+    /// The cause, as that of a command.
     pub error: CommandError,
     /// The manager whose arena was full, where it is not the state's.
     pub manager: Option<Manager>,

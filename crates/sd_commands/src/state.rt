@@ -35,6 +35,7 @@ use std::collections::BTreeMap;
 /// What a run holds between two commands: the diagrams of its names, and what the words and scripts set.
 #[derive(Drop)]
 pub struct RunState {
+    /// The nodes of all diagrams, over the vtree as it is now.
     pub manager: Manager,
     /// It serves the manager: what it names is right there.
     pub cache: Cache,

@@ -49,6 +49,8 @@ pub enum Action {
 /// A command with its line, counted from 1 over all lines of the text.
 #[derive(Debug, Drop)]
 pub struct Command {
+    /// The line, 1 to 100,000.
     pub line: u32,
+    /// What it does.
     pub action: Action,
 }

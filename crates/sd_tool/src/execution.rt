@@ -35,8 +35,11 @@ use std::thread::Threads;
 /// may be.
 #[derive(Drop)]
 pub struct Crew<'a, R, G> {
+    /// The runtime.
     pub rt: &'a R,
+    /// The allocator of all that is made.
     pub alloc: Global,
+    /// 64 gates.
     pub gates: Vec<G>,
 }
 

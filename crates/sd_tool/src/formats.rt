@@ -29,6 +29,7 @@ use std::alloc::Global;
 /// Formulas of a kind.
 #[derive(Clone, Copy)]
 pub struct FormulaText {
+    /// Whether the groups are clauses or terms.
     pub kind: Kind,
 }
 
@@ -95,6 +96,7 @@ impl Format for CircuitText {
 /// Vtrees over the variables from 1 on.
 #[derive(Clone, Copy)]
 pub struct VtreeText {
+    /// How many there are, 1 to 1,024.
     pub variables: u32,
 }
 
@@ -129,7 +131,9 @@ impl Format for VtreeText {
 /// Scripts over the variables from 1 on, for a circuit with so many outputs.
 #[derive(Clone, Copy)]
 pub struct ScriptText {
+    /// How many there are, 1 to 1,024.
     pub variables: u32,
+    /// How many there are, or 0 for a formula.
     pub outputs: u32,
 }
 
@@ -165,6 +169,7 @@ impl Format for ScriptText {
 /// Diagrams over the variables from 1 on.
 #[derive(Clone, Copy)]
 pub struct SddText {
+    /// How many there are, 1 to 1,024.
     pub variables: u32,
 }
 
@@ -203,7 +208,9 @@ pub struct VtreeWithIdsText;
 /// A vtree, and the positions of the ids of its file.
 #[derive(Drop)]
 pub struct VtreeWithIds {
+    /// The vtree.
     pub vtree: Vtree,
+    /// At each id of the file its position.
     pub ids: Ids,
 }
 

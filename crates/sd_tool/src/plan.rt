@@ -34,22 +34,29 @@ pub enum Opening {
 /// What a run is about: a formula; or a circuit, beside a formula without groups over its inputs.
 #[derive(Drop)]
 pub struct Source {
+    /// The formula, without groups where there is a circuit.
     pub formula: Formula,
+    /// The circuit, if it is one.
     pub circuit: Option<Circuit>,
 }
 
 /// What is to be done: what workers do, and the commands behind it.
 #[derive(Drop)]
 pub struct Orders {
+    /// What workers do first.
     pub opening: Opening,
+    /// What is done one by one then.
     pub commands: Vec<NumberedCommand>,
 }
 
 /// The inputs of a run, once they are read.
 #[derive(Drop)]
 pub struct Inputs {
+    /// The formula or the circuit.
     pub source: Source,
+    /// The vtree that the run begins with, over the variables of the source.
     pub vtree: Vtree,
+    /// What is to be done with them.
     pub orders: Orders,
 }
 
@@ -62,6 +69,7 @@ pub struct RunPlan {
     pub state: RunState,
     /// The line of a generated formula.
     pub told: Option<NumberedCommand>,
+    /// What workers do, behind that line.
     pub opening: Opening,
     /// How many workers do the opening, 1 to 16.
     pub workers: u32,

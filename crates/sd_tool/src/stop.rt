@@ -38,7 +38,9 @@ pub enum Stop {
 /// How the commands of a run stop: why, and the manager whose arena was full, where it is not that of the run's state.
 #[derive(Drop)]
 pub struct Halt {
+    /// Why.
     pub stop: Stop,
+    /// The manager whose arena was full, where it is not that of the run's state.
     pub manager: Option<Manager>,
 }
 

@@ -34,7 +34,9 @@ pub enum TreeWord {
 /// What a run is to do. In the answer of `read_words` the two output files are two.
 #[derive(Debug, Drop)]
 pub struct Job {
+    /// What the run is about, and where that comes from.
     pub input: InputWord,
+    /// The vtree that it begins with.
     pub tree: TreeWord,
     /// The commands to run; then `out_vtree`, `out_sdd` and `minimise` are `None`.
     pub script: Option<Name>,
