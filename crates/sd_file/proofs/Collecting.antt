@@ -1,5 +1,5 @@
 -- The ranks of constants and literals, and that all that a node shows is in order.
-use Rattle.std.proofs.Common.{◌≡◌, ◌≢◌, ◌⊎◌, inl, inr, ℕ, ◌==◌, Bool, true, false, cond}
+use Rattle.std.proofs.Common.{◌≡◌, ◌≢◌, ◌⊎◌, inl, inr, ℕ, ◌==◌, Bool, true, false}
 use Rattle.std.proofs.Common.{List, [], ◌∷◌, Some, refl, sym, ◌∙◌, ap, subst, arith}
 use Rattle.std.proofs.Common.{if◌then◌else◌}
 use Rattle.std.proofs.lemmas.Option.{same_Some}
@@ -19,19 +19,26 @@ use Rattle.sd_laws.proofs.Codes.{one_code}
 use Rattle.sd_laws.proofs.Numbers.{literal_canonical}
 use Rattle.sd_laws.proofs.Places.{position_within}
 use Rattle.sd_manager.specs.Table.{Table}
-use Rattle.sd_manager.specs.Shown.{Shows}
+use Rattle.sd_manager.specs.Shown.{Shows, constant_diagram}
 use Rattle.sd_manager.specs.Valid.{IsTable}
+use Rattle.sd_manager.proofs.Holding.{some_value}
 use Rattle.sd_file.specs.declared.known.Ordered.{Ordered}
+use Rattle.sd_file.specs.declared.known.Rank.TheVariants as rank
 use Rattle.sd_file.specs.Ordered.{Rank, rank_of, list_of, IsOrdered, AreOrdered}
 use Rattle.sd_file.specs.Ranks.{rank_cmp, FitsRank, HasRanks, AreRanks, FitsPlain, ArePlain, AreLeft, AreCollected}
 use Rattle.sd_file.specs.declared.order.Found.{Found}
-use Rattle.sd_file.proofs.Ranking.{nat_same, if_tells, some_of}
+use Rattle.sd_file.proofs.Ranking.{nat_same, if_tells}
+
+-- the rank of a constant fits it
+pub constant_fits : (value : Bool) → FitsPlain (constant_diagram value) (rank.Constant value)
+constant_fits true = refl
+constant_fits false = refl
 
 -- literals
 
 -- the rank of a literal fits it
-pub literal_fits : (q y : ℕ) (s : Bool) (d : Diagram) → Literal q y s ≡ d → FitsPlain d (1, q, cond s 1 0)
-literal_fits q y s d e = subst (λ x. FitsPlain x (1, q, cond s 1 0)) e refl
+pub literal_fits : (q y : ℕ) (s : Bool) (d : Diagram) → Literal q y s ≡ d → FitsPlain d (rank.Literal q s)
+literal_fits q y s d e = subst (λ x. FitsPlain x (rank.Literal q s)) e refl
 
 -- constants and literals
 
@@ -45,13 +52,6 @@ one_variable (canonical_in_left m k) (canonical_in_right n j) e f =
     absurd (omega (arith, e, f, (position_within k refl).1, (position_within j refl).0))
 one_variable (canonical_in_right m k) (canonical_in_left n j) e f =
     absurd (omega (arith, e, f, (position_within j refl).1, (position_within k refl).0))
-
--- signs are compared as truth values
-sign_cmp : (s u : Bool) → nat_cmp (cond s 1 0) (cond u 1 0) ≡ bool_cmp s u
-sign_cmp false false = refl
-sign_cmp false true = refl
-sign_cmp true false = refl
-sign_cmp true true = refl
 
 -- two literals are compared as their positions and signs
 literals_compared : (o k m : Ordering) → (o ≡ Equal → m ≡ Equal) →
@@ -68,19 +68,20 @@ literals_compared Greater k m h = refl
 -- ranks of constants and literals are compared as these are
 plain_order : (t : Table) → IsTable t → (c b : ℕ) (r s : Rank) (d e : Diagram) → FitsPlain d r → FitsPlain e s →
     Shows t c d → Shows t b e → rank_cmp r s ≡ diagram_cmp d e
-plain_order t table c b r s Bottom Bottom f g h k = ap (λ x. rank_cmp x s) f ∙ ap (rank_cmp (0, 0, 0)) g
-plain_order t table c b r s Bottom Top f g h k = ap (λ x. rank_cmp x s) f ∙ ap (rank_cmp (0, 0, 0)) g
-plain_order t table c b r s Bottom (Literal q y u) f g h k = ap (λ x. rank_cmp x s) f ∙ ap (rank_cmp (0, 0, 0)) g
-plain_order t table c b r s Top Bottom f g h k = ap (λ x. rank_cmp x s) f ∙ ap (rank_cmp (0, 0, 1)) g
-plain_order t table c b r s Top Top f g h k = ap (λ x. rank_cmp x s) f ∙ ap (rank_cmp (0, 0, 1)) g
-plain_order t table c b r s Top (Literal q y u) f g h k = ap (λ x. rank_cmp x s) f ∙ ap (rank_cmp (0, 0, 1)) g
+plain_order t table c b r s Bottom Bottom f g h k = ap (λ x. rank_cmp x s) f ∙ ap (rank_cmp (rank.Constant false)) g
+plain_order t table c b r s Bottom Top f g h k = ap (λ x. rank_cmp x s) f ∙ ap (rank_cmp (rank.Constant false)) g
+plain_order t table c b r s Bottom (Literal q y u) f g h k =
+    ap (λ x. rank_cmp x s) f ∙ ap (rank_cmp (rank.Constant false)) g
+plain_order t table c b r s Top Bottom f g h k = ap (λ x. rank_cmp x s) f ∙ ap (rank_cmp (rank.Constant true)) g
+plain_order t table c b r s Top Top f g h k = ap (λ x. rank_cmp x s) f ∙ ap (rank_cmp (rank.Constant true)) g
+plain_order t table c b r s Top (Literal q y u) f g h k =
+    ap (λ x. rank_cmp x s) f ∙ ap (rank_cmp (rank.Constant true)) g
 plain_order t table c b r s (Literal p x v) Bottom f g h k =
-    ap (λ z. rank_cmp z s) f ∙ ap (rank_cmp (1, p, cond v 1 0)) g
+    ap (λ z. rank_cmp z s) f ∙ ap (rank_cmp (rank.Literal p v)) g
 plain_order t table c b r s (Literal p x v) Top f g h k =
-    ap (λ z. rank_cmp z s) f ∙ ap (rank_cmp (1, p, cond v 1 0)) g
+    ap (λ z. rank_cmp z s) f ∙ ap (rank_cmp (rank.Literal p v)) g
 plain_order t table c b r s (Literal p x v) (Literal q y u) f g h k =
-    ap (λ z. rank_cmp z s) f ∙ ap (rank_cmp (1, p, cond v 1 0)) g
-    ∙ ap (ordering_then (nat_cmp p q)) (sign_cmp v u)
+    ap (λ z. rank_cmp z s) f ∙ ap (rank_cmp (rank.Literal p v)) g
     ∙ literals_compared (nat_cmp p q) (bool_cmp v u) (nat_cmp x y)
     (λ e.
     let at : p ≡ q = exact_unsigned p q e in
@@ -137,7 +138,7 @@ mutual
   in_order_below t table o ranks Top c is shows = tt
   in_order_below t table o ranks (Literal p x s) c is shows = tt
   in_order_below t table o ranks (Decomposition p es) c is shows =
-      let r = some_of (rank_of o c) is in
+      let r = some_value (rank_of o c) is in
       let l = ranks.lists c p r.0 es r.1 shows in (
         λ b seen.
             record {

@@ -31,6 +31,7 @@ use Rattle.sd_manager.specs.Valid.{IsTable}
 use Rattle.sd_file.specs.declared.known.Ordered.{Ordered}
 use Rattle.sd_file.specs.declared.order.Found.{Found}
 use Rattle.sd_file.specs.Ordered.{rank_of}
+use Rattle.sd_file.specs.declared.known.Rank.TheVariants as rank
 use Rattle.sd_file.specs.Ranks.{Ranked, RankedNode, ranked_cmp, entry_cmp, codes_of}
 use Rattle.sd_file.specs.Ranks.{IsRanked, AreRanks, IsEntry, IsPast, IsFresh}
 use Rattle.sd_file.specs.Ranks.{IsGiving, HasNewRank, IsNodeAt, IsGroup, AreLeft, NoneAt, AreFound, IsAdded, was_seen}
@@ -103,14 +104,14 @@ entry_is t o ranks code n ks ls pairs ranked order up count p at =
 -- the next entry gets its rank and its list
 pub given_more : (old o new : Ordered) (p i : ℕ) (xs : List RankedNode) (x : RankedNode) (list : List (ℕ × ℕ)) →
     HasGiven old o p i xs → i < length xs → x ≡ get_or xs i x → list ≡ map codes_of x.1.items →
-    HasNewRank o new x.2 (2, p, i) list → HasGiven old new p (i + 1) xs
+    HasNewRank o new x.2 (rank.Decomposition p i) list → HasGiven old new p (i + 1) xs
 given_more old o new p i xs x list h lt is pairs given t groups table start =
     let split : drop i xs ≡ x ∷ drop (suc i) xs =
     drop-cons xs i x lt ∙ ap (λ z. z ∷ drop (suc i) xs) (sym is) in
     let next : suc i ≡ i + 1 = omega arith in
     subst (λ n. IsGiving t new groups p (i + 1) (drop n xs)) next
     (given_one t table o new groups p i x (drop (suc i) xs)
-    (subst (λ l. HasNewRank o new x.2 (2, p, i) l) pairs given)
+    (subst (λ l. HasNewRank o new x.2 (rank.Decomposition p i) l) pairs given)
     (subst (IsGiving t o groups p i) split (h t groups table start)))
 
 -- at the end none is left
@@ -131,8 +132,8 @@ ranks_none o xs = record { kept = λ c s. s; given = none xs }
 
 -- the next entry has one
 pub ranks_more : (old o new : Ordered) (p i : ℕ) (xs : List RankedNode) (x : RankedNode) (list : List (ℕ × ℕ)) →
-    HaveRanksTo old o i xs → i < length xs → x ≡ get_or xs i x → HasNewRank o new x.2 (2, p, i) list →
-    HaveRanksTo old new (i + 1) xs
+    HaveRanksTo old o i xs → i < length xs → x ≡ get_or xs i x →
+    HasNewRank o new x.2 (rank.Decomposition p i) list → HaveRanksTo old new (i + 1) xs
 ranks_more old o new p i xs x list h lt is given =
     record {
       kept = λ c s. keeps c (h.kept c s);
@@ -141,11 +142,11 @@ ranks_more old o new p i xs x list h lt is given =
           (sym (take_more xs i x lt ∙ ap (λ z. take i xs ++ z ∷ []) (sym is)))
           (all_push (λ (e : RankedNode). IsSome (rank_of new e.2)) (take i xs) x
           (all_weaker (λ (e : RankedNode). IsSome (rank_of o e.2)) (λ (e : RankedNode). IsSome (rank_of new e.2))
-          (λ e s. keeps e.2 s) (take i xs) h.given) (given_has o new x.2 (2, p, i) given.ranks));
+          (λ e s. keeps e.2 s) (take i xs) h.given) (given_has o new x.2 (rank.Decomposition p i) given.ranks));
     }
   where
     keeps : KeepRanks o new
-    keeps = given_keeps o new x.2 (2, p, i) given.ranks
+    keeps = given_keeps o new x.2 (rank.Decomposition p i) given.ranks
 
 -- at the end all have
 pub ranks_all : (old o : Ordered) (i : ℕ) (xs : List RankedNode) → HaveRanksTo old o i xs → i ≡ length xs →
@@ -198,7 +199,7 @@ giving_start t o groups p group v w ranks is codes entries order up fresh none g
       ranks = ranks;
       fresh = fresh;
       gone = λ u e. absurd (cc);
-      below = λ c r es at shows. absurd (none c r es at shows);
+      below = λ c place es at shows. absurd (none c (rank.Decomposition p place) es at shows);
       past = all_past w;
       entries = all_permuted (IsEntry t o p) v w order entries;
       ascending =

@@ -1,6 +1,6 @@
 -- Ranks are compared as diagrams are, and how a decomposition gets its rank.
 use Rattle.std.proofs.Common.{◌≡◌, ◌≢◌, ◌⊎◌, inl, inr, ℕ, ◌+◌, ◌<◌, ◌==◌, true, false, List, [], ◌∷◌}
-use Rattle.std.proofs.Common.{map, Option, Some, None, refl, sym, ◌∙◌, ap, subst, arith, if◌then◌else◌}
+use Rattle.std.proofs.Common.{map, Some, refl, sym, ◌∙◌, ap, subst, arith, if◌then◌else◌}
 use Rattle.std.specs.List.{AllByRecursion}
 use Rattle.std.specs.List.Sorted.{IsPermutation, IsSorted, IsStrictlySortedBy}
 use Rattle.std.specs.Option.{IsSome}
@@ -30,8 +30,12 @@ use Rattle.sd_manager.specs.Table.{Table}
 use Rattle.sd_manager.specs.Shown.{Shows}
 use Rattle.sd_manager.specs.Views.{pairs_at}
 use Rattle.sd_manager.specs.Valid.{IsTable}
+use Rattle.sd_manager.proofs.Holding.{some_value}
 use Rattle.sd_manager.proofs.Reading.{linked_key, pairs_node, pairs_count}
+use Rattle.sd_file.specs.contracts.known.RankOrd.TheImpl as derived
+use Rattle.sd_file.specs.contracts.known.RankOrd.TheImpl.Laws as laws
 use Rattle.sd_file.specs.declared.known.Ordered.{Ordered}
+use Rattle.sd_file.specs.declared.known.Rank.TheVariants as rank
 use Rattle.sd_file.specs.Ordered.{Rank, rank_of, list_of}
 use Rattle.sd_file.specs.Ranks.{Ranked, RankedNode, rank_cmp, ranked_cmp}
 use Rattle.sd_file.specs.Ranks.{entry_cmp, codes_of, FitsRank, HasRanks, IsRanked}
@@ -40,11 +44,24 @@ use Rattle.sd_file.proofs.Ascending.{sorted_same}
 
 -- orders
 
+-- ranks are compared by the order that is derived for them
+compares : (r s : Rank) → derived.ghosts.cmp r s ≡ rank_cmp r s
+compares (rank.Constant a) (rank.Constant b) = refl
+compares (rank.Constant a) (rank.Literal q t) = refl
+compares (rank.Constant a) (rank.Decomposition q j) = refl
+compares (rank.Literal p s) (rank.Constant b) = refl
+compares (rank.Literal p s) (rank.Literal q t) = refl
+compares (rank.Literal p s) (rank.Decomposition q j) = refl
+compares (rank.Decomposition p i) (rank.Constant b) = refl
+compares (rank.Decomposition p i) (rank.Literal q t) = refl
+compares (rank.Decomposition p i) (rank.Decomposition q j) = refl
+
+-- so the two are one order
+pub one_order : derived.ghosts.cmp ≡ rank_cmp
+one_order i r s = compares r s i
+
 pub rank_total : IsTotalOrder rank_cmp
-rank_total =
-    then_total
-    (then_total (on_total (λ (r : Rank). r.0) nat_cmp_total) (on_total (λ (r : Rank). r.1) nat_cmp_total))
-    (on_total (λ (r : Rank). r.2) nat_cmp_total)
+rank_total = subst IsTotalOrder one_order laws.total-law
 
 pub ranked_total : IsTotalOrder ranked_cmp
 ranked_total =
@@ -210,42 +227,34 @@ rank_same r s e = go (rank_cmp s s) (rank_total.antisymm s s) (ap (λ k. rank_cm
     go Greater k h = absurd (cc)
 
 -- what is there
-pub some_of : {A : Type 0} (o : Option A) → IsSome o → (x : A) × (o ≡ Some x)
-some_of None h = absurd (cc)
-some_of (Some x) h = (x, refl)
-
 pub is_there : {A : Type 0} (x : A) → IsSome (Some x)
 is_there x = refl
 
 -- a rank of another kind or position is compared as the diagrams are
 cross : (t : Table) (d : Diagram) (r : Rank) (p index : ℕ) (es : Elements) → FitsRank d r →
-    ((fs : Elements) → d ≡ Decomposition p fs → (diagram_cmp d (Decomposition p es) ≡ Less) × (r.2 < index)) →
-    rank_cmp r (2, p, index) ≡ diagram_cmp d (Decomposition p es)
-cross t Bottom r p index es fits past = ap (λ s. rank_cmp s (2, p, index)) fits
-cross t Top r p index es fits past = ap (λ s. rank_cmp s (2, p, index)) fits
-cross t (Literal q x s) r p index es fits past = ap (λ s. rank_cmp s (2, p, index)) fits
-cross t (Decomposition q fs) r p index es fits past = go (nat_cmp q p) refl
+    ((place : ℕ) (fs : Elements) → d ≡ Decomposition p fs → r ≡ rank.Decomposition p place →
+    (diagram_cmp d (Decomposition p es) ≡ Less) × (place < index)) →
+    rank_cmp r (rank.Decomposition p index) ≡ diagram_cmp d (Decomposition p es)
+cross t Bottom r p index es fits past = ap (λ s. rank_cmp s (rank.Decomposition p index)) fits
+cross t Top r p index es fits past = ap (λ s. rank_cmp s (rank.Decomposition p index)) fits
+cross t (Literal q x s) r p index es fits past = ap (λ s. rank_cmp s (rank.Decomposition p index)) fits
+cross t (Decomposition q fs) r p index es fits past =
+    ap (λ s. rank_cmp s (rank.Decomposition p index)) fits.1 ∙ go (nat_cmp q p) refl
   where
-    kinds : nat_cmp r.0 2 ≡ Equal
-    kinds = nat_same r.0 2 fits.0
-
-    lead : ordering_then (nat_cmp r.0 2) (nat_cmp r.1 p) ≡ nat_cmp q p
-    lead = ap (λ o. ordering_then o (nat_cmp r.1 p)) kinds ∙ ap (λ k. nat_cmp k p) fits.1
-
-    whole : rank_cmp r (2, p, index) ≡ ordering_then (nat_cmp q p) (nat_cmp r.2 index)
-    whole = ap (λ o. ordering_then o (nat_cmp r.2 index)) lead
-
     go : (o : Ordering) → nat_cmp q p ≡ o →
-        rank_cmp r (2, p, index) ≡ diagram_cmp (Decomposition q fs) (Decomposition p es)
+        ordering_then (nat_cmp q p) (nat_cmp fits.0 index)
+        ≡ ordering_then (nat_cmp q p) (ordering_then (nat_cmp (count fs) (count es)) (elements_cmp fs es))
     go Less e =
-        whole ∙ ap (λ o. ordering_then o (nat_cmp r.2 index)) e
+        ap (λ o. ordering_then o (nat_cmp fits.0 index)) e
         ∙ sym (ap (λ o. ordering_then o (ordering_then (nat_cmp (count fs) (count es)) (elements_cmp fs es))) e)
     go Greater e =
-        whole ∙ ap (λ o. ordering_then o (nat_cmp r.2 index)) e
+        ap (λ o. ordering_then o (nat_cmp fits.0 index)) e
         ∙ sym (ap (λ o. ordering_then o (ordering_then (nat_cmp (count fs) (count es)) (elements_cmp fs es))) e)
     go Equal e =
-        let k = past fs (ap (λ q. Decomposition q fs) (exact_unsigned q p e)) in
-        whole ∙ ap (λ o. ordering_then o (nat_cmp r.2 index)) e ∙ sym (nat_cmp_is r.2 index Less k.1) ∙ sym k.0
+        let same : q ≡ p = exact_unsigned q p e in
+        let k = past fits.0 fs (ap (λ k. Decomposition k fs) same)
+        (fits.1 ∙ ap (λ k. rank.Decomposition k fits.0) same) in
+        ap (λ o. ordering_then o (nat_cmp fits.0 index)) e ∙ sym (nat_cmp_is fits.0 index Less k.1) ∙ sym k.0
 
 -- what an `if` by numbers gives: the one where they are equal, and else the other
 pub if_tells : {A : Type 0} (b c : ℕ) (x y : A) →
@@ -269,10 +278,15 @@ elements_equal p q es fs e = (ap index_in e, ap elements_in e)
     elements_in (Decomposition p es) = es
     elements_in _ = End
 
+-- the place of a decomposition
+abbrev place_in : Rank → ℕ
+place_in (rank.Decomposition p place) = place
+place_in r = 0
+
 -- the step for the first entry that is left
 module _ (t : Table) (table : IsTable t) (old new : Ordered) (groups : BTreeMap ℕ (Vec ℕ Global)) (p index : ℕ)
     (entry : RankedNode) (left : List RankedNode)
-    (given : HasNewRank old new entry.2 (2, p, index) (map codes_of entry.1.items))
+    (given : HasNewRank old new entry.2 (rank.Decomposition p index) (map codes_of entry.1.items))
     (h : IsGiving t old groups p index (entry ∷ left)) where
   -- the diagram that the entry shows
   whole : Diagram
@@ -287,23 +301,27 @@ module _ (t : Table) (table : IsTable t) (old new : Ordered) (groups : BTreeMap 
 
   -- what has a rank keeps it
   keeps : (b : ℕ) (r : Rank) → rank_of old b ≡ Some r → rank_of new b ≡ Some r
-  keeps b r is = go (if_tells b entry.2 (Some (2, p, index)) (rank_of old b))
+  keeps b r is = go (if_tells b entry.2 (Some (rank.Decomposition p index)) (rank_of old b))
     where
-      go : ((b ≡ entry.2) × ((if b == entry.2 then Some (2, p, index) else rank_of old b) ≡ Some (2, p, index)))
-          ⊎ ((b ≢ entry.2) × ((if b == entry.2 then Some (2, p, index) else rank_of old b) ≡ rank_of old b)) →
+      go : ((b ≡ entry.2) × ((if b == entry.2 then Some (rank.Decomposition p index) else rank_of old b)
+          ≡ Some (rank.Decomposition p index)))
+          ⊎ ((b ≢ entry.2) × ((if b == entry.2 then Some (rank.Decomposition p index) else rank_of old b)
+          ≡ rank_of old b)) →
           rank_of new b ≡ Some r
       go (inl k) = absurd (absent r (ap (rank_of old) (sym k.0) ∙ is))
       go (inr k) = given.ranks b ∙ k.1 ∙ is
 
   -- what has a rank had it, or is the entry
   ways : (b : ℕ) (r : Rank) → rank_of new b ≡ Some r →
-      (rank_of old b ≡ Some r) ⊎ ((b ≡ entry.2) × (r ≡ (2, p, index)))
-  ways b r is = go (if_tells b entry.2 (Some (2, p, index)) (rank_of old b))
+      (rank_of old b ≡ Some r) ⊎ ((b ≡ entry.2) × (r ≡ rank.Decomposition p index))
+  ways b r is = go (if_tells b entry.2 (Some (rank.Decomposition p index)) (rank_of old b))
     where
-      go : ((b ≡ entry.2) × ((if b == entry.2 then Some (2, p, index) else rank_of old b) ≡ Some (2, p, index)))
-          ⊎ ((b ≢ entry.2) × ((if b == entry.2 then Some (2, p, index) else rank_of old b) ≡ rank_of old b)) →
-          (rank_of old b ≡ Some r) ⊎ ((b ≡ entry.2) × (r ≡ (2, p, index)))
-      go (inl k) = inr (k.0, same_Some r (2, p, index) (sym is ∙ given.ranks b ∙ k.1))
+      go : ((b ≡ entry.2) × ((if b == entry.2 then Some (rank.Decomposition p index) else rank_of old b)
+          ≡ Some (rank.Decomposition p index)))
+          ⊎ ((b ≢ entry.2) × ((if b == entry.2 then Some (rank.Decomposition p index) else rank_of old b)
+          ≡ rank_of old b)) →
+          (rank_of old b ≡ Some r) ⊎ ((b ≡ entry.2) × (r ≡ rank.Decomposition p index))
+      go (inl k) = inr (k.0, same_Some r (rank.Decomposition p index) (sym is ∙ given.ranks b ∙ k.1))
       go (inr k) = inl (sym k.1 ∙ sym (given.ranks b) ∙ is)
 
   -- what has a rank keeps its list
@@ -334,7 +352,7 @@ module _ (t : Table) (table : IsTable t) (old new : Ordered) (groups : BTreeMap 
   keeps_pair e k = (keeps_some e.0 k.0, keeps_some e.1 k.1)
     where
       keeps_some : (b : ℕ) → IsSome (rank_of old b) → IsSome (rank_of new b)
-      keeps_some b k = let s = some_of (rank_of old b) k in subst IsSome (sym (keeps b s.0 s.1)) (is_there s.0)
+      keeps_some b k = let s = some_value (rank_of old b) k in subst IsSome (sym (keeps b s.0 s.1)) (is_there s.0)
 
   -- an element keeps its ranks
   keeps_ranked : (e : Ranked) → IsRanked old e → IsRanked new e
@@ -360,15 +378,15 @@ module _ (t : Table) (table : IsTable t) (old new : Ordered) (groups : BTreeMap 
 
   -- its rank is compared with an earlier one as the diagrams are
   before : (c : ℕ) (r : Rank) (d : Diagram) → rank_of old c ≡ Some r → Shows t c d →
-      rank_cmp r (2, p, index) ≡ diagram_cmp d whole
+      rank_cmp r (rank.Decomposition p index) ≡ diagram_cmp d whole
   unfolding whole
   before c r d is shows =
       cross t d r p index h.entries.0.elements (h.ranks.fits c r d is shows)
-      (λ fs e.
+      (λ place fs e f.
       let at : Shows t c (Decomposition p fs) = subst (Shows t c) e shows in (
         ap (λ x. diagram_cmp x (Decomposition p h.entries.0.elements)) e
             ∙ h.past.0 c r fs h.entries.0.elements is at h.entries.0.shown,
-        h.below c r fs is at,
+        h.below c place fs (is ∙ ap Some f) at,
       ))
 
   -- the ranks after the step
@@ -376,24 +394,24 @@ module _ (t : Table) (table : IsTable t) (old new : Ordered) (groups : BTreeMap 
   unfolding whole
   fits_after c r d is shows = go (ways c r is)
     where
-      go : (rank_of old c ≡ Some r) ⊎ ((c ≡ entry.2) × (r ≡ (2, p, index))) → FitsRank d r
+      go : (rank_of old c ≡ Some r) ⊎ ((c ≡ entry.2) × (r ≡ rank.Decomposition p index)) → FitsRank d r
       go (inl k) = h.ranks.fits c r d k shows
       go (inr k) =
-          subst (λ x. FitsRank x r) (only d (subst (λ b. Shows t b d) k.0 shows))
-          (ap (λ (x : Rank). x.0) k.1, ap (λ (x : Rank). x.1) k.1)
+          subst (λ x. FitsRank x r) (only d (subst (λ b. Shows t b d) k.0 shows)) (index, k.1)
 
   order_after : (c b : ℕ) (r s : Rank) (d e : Diagram) → rank_of new c ≡ Some r → rank_of new b ≡ Some s →
       Shows t c d → Shows t b e → rank_cmp r s ≡ diagram_cmp d e
   order_after c b r s d e is at shows seen = go (ways c r is) (ways b s at)
     where
-      go : (rank_of old c ≡ Some r) ⊎ ((c ≡ entry.2) × (r ≡ (2, p, index))) →
-          (rank_of old b ≡ Some s) ⊎ ((b ≡ entry.2) × (s ≡ (2, p, index))) → rank_cmp r s ≡ diagram_cmp d e
+      go : (rank_of old c ≡ Some r) ⊎ ((c ≡ entry.2) × (r ≡ rank.Decomposition p index)) →
+          (rank_of old b ≡ Some s) ⊎ ((b ≡ entry.2) × (s ≡ rank.Decomposition p index)) →
+          rank_cmp r s ≡ diagram_cmp d e
       go (inl k) (inl l) = h.ranks.order c b r s d e k l shows seen
       go (inl k) (inr l) =
           ap (rank_cmp r) l.1 ∙ before c r d k shows
           ∙ ap (diagram_cmp d) (only e (subst (λ x. Shows t x e) l.0 seen))
       go (inr k) (inl l) =
-          ap (λ x. rank_cmp x s) k.1 ∙ rank_total.antisymm (2, p, index) s
+          ap (λ x. rank_cmp x s) k.1 ∙ rank_total.antisymm (rank.Decomposition p index) s
           ∙ ap ordering_reverse (before b s e l seen) ∙ sym (antisymm whole e)
           ∙ ap (λ x. diagram_cmp x e) (only d (subst (λ x. Shows t x d) k.0 shows))
       go (inr k) (inr l) =
@@ -406,7 +424,7 @@ module _ (t : Table) (table : IsTable t) (old new : Ordered) (groups : BTreeMap 
   unfolding whole
   lists_after c q r es is shows = go (ways c r is)
     where
-      go : (rank_of old c ≡ Some r) ⊎ ((c ≡ entry.2) × (r ≡ (2, p, index))) → IsListed t new c es
+      go : (rank_of old c ≡ Some r) ⊎ ((c ≡ entry.2) × (r ≡ rank.Decomposition p index)) → IsListed t new c es
       go (inl k) =
           let l = h.ranks.lists c q r es k shows in
           record {
@@ -431,7 +449,7 @@ module _ (t : Table) (table : IsTable t) (old new : Ordered) (groups : BTreeMap 
   fresh_after : IsFresh t new groups
   fresh_after c q r es v is shows = go (ways c r is)
     where
-      go : (rank_of old c ≡ Some r) ⊎ ((c ≡ entry.2) × (r ≡ (2, p, index))) →
+      go : (rank_of old c ≡ Some r) ⊎ ((c ≡ entry.2) × (r ≡ rank.Decomposition p index)) →
           tree.get nat_cmp groups q ≡ Some v → ⊥
       go (inl k) e = h.fresh c q r es v k shows e
       go (inr k) e =
@@ -441,19 +459,20 @@ module _ (t : Table) (table : IsTable t) (old new : Ordered) (groups : BTreeMap 
           (Decomposition q es) h.entries.0.shown (subst (λ b. Shows t b (Decomposition q es)) k.0 shows))).0 in
           h.gone v (ap (tree.get nat_cmp groups) at ∙ e)
 
-  below_after : (c : ℕ) (r : Rank) (es : Elements) → rank_of new c ≡ Some r → Shows t c (Decomposition p es) →
-      r.2 < index + 1
-  below_after c r es is shows = go (ways c r is)
+  below_after : (c place : ℕ) (es : Elements) → rank_of new c ≡ Some (rank.Decomposition p place) →
+      Shows t c (Decomposition p es) → place < index + 1
+  below_after c place es is shows = go (ways c (rank.Decomposition p place) is)
     where
-      go : (rank_of old c ≡ Some r) ⊎ ((c ≡ entry.2) × (r ≡ (2, p, index))) → r.2 < index + 1
-      go (inl k) = let lt = h.below c r es k shows in omega arith
-      go (inr k) = let e : r.2 ≡ index = ap (λ (x : Rank). x.2) k.1 in omega arith
+      go : (rank_of old c ≡ Some (rank.Decomposition p place))
+          ⊎ ((c ≡ entry.2) × (rank.Decomposition p place ≡ rank.Decomposition p index)) → place < index + 1
+      go (inl k) = let lt = h.below c place es k shows in omega arith
+      go (inr k) = let e : place ≡ index = ap place_in k.1 in omega arith
 
   -- an entry that is less comes before
   past_after : (e : RankedNode) → entry_cmp entry e ≡ Less → IsEntry t old p e → IsPast t old p e → IsPast t new p e
   past_after e less at past c r es fs is shows seen = go (ways c r is)
     where
-      go : (rank_of old c ≡ Some r) ⊎ ((c ≡ entry.2) × (r ≡ (2, p, index))) →
+      go : (rank_of old c ≡ Some r) ⊎ ((c ≡ entry.2) × (r ≡ rank.Decomposition p index)) →
           diagram_cmp (Decomposition p es) (Decomposition p fs) ≡ Less
       go (inl k) = past c r es fs k shows seen
       go (inr k) =

@@ -8,6 +8,7 @@ use Rattle.sd_manager.specs.Table.{Table}
 use Rattle.sd_manager.specs.Shown.{Shows, ShowsCanonical}
 use Rattle.sd_file.specs.declared.known.Known.{Known}
 use Rattle.sd_file.specs.declared.known.Ordered.{Ordered}
+pub use Rattle.sd_file.specs.declared.known.Rank.{Rank}
 use Rattle.sd_file.specs.Known.{place_at, known_at}
 
 -- a list of pairs of codes for some codes
@@ -21,10 +22,6 @@ known_of o c = known_at o.known.items (place_at o.places.items c)
 -- the elements that are kept of a decomposition, by its code
 unfoldable pub list_of : Ordered → Lists
 list_of o c = option_map (λ k. k.list.items) (known_of o c)
-
--- where a diagram stands in the structural order: its kind, its position, and its place among those of one position
-abbrev pub Rank : Type 0
-Rank = ℕ × ℕ × ℕ
 
 -- the rank that is kept of a code
 unfoldable pub rank_of : Ordered → ℕ → Option Rank

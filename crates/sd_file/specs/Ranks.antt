@@ -1,5 +1,5 @@
 -- Ranks of codes, which are compared as the diagrams that the codes show, and how they are given.
-use Rattle.std.specs.Prelude.{◌≡◌, ◌⊎◌, ℕ, ◌+◌, ◌<◌, ◌≤◌, ◌==◌, Bool, true, false, slice_index_or, cond, [], ◌∷◌}
+use Rattle.std.specs.Prelude.{◌≡◌, ◌⊎◌, ℕ, ◌+◌, ◌<◌, ◌≤◌, ◌==◌, Bool, true, false, slice_index_or, [], ◌∷◌}
 use Rattle.std.specs.Prelude.{◌++◌, List, length, map, take, drop, Option, Some, None, if◌then◌else◌}
 use Rattle.std.specs.List.{AllByRecursion, IsDistinct}
 use Rattle.std.specs.List.Sorted.{IsStrictlySortedBy}
@@ -9,9 +9,9 @@ use Rattle.std.specs.BTreeMap as tree
 use Rattle.std.specs.BTreeMap.{BTreeMap}
 use Rattle.std.specs.FinMap.{get}
 use Rattle.std.specs.Cmp.Lexicographic.{slice_cmp}
-use Rattle.std.specs.Ordering.{nat_cmp, ordering_then}
+use Rattle.std.specs.Ordering.{nat_cmp, bool_cmp, ordering_then}
 use Rattle.std.specs.declared.cmp.Ordering.{Ordering}
-use Rattle.std.specs.declared.cmp.Ordering.TheVariants.{Less}
+use Rattle.std.specs.declared.cmp.Ordering.TheVariants.{Less, Greater}
 use Rattle.std.specs.declared.vec.Vec.{Vec}
 use Rattle.std.specs.declared.alloc.Global.{Global}
 use Rattle.sd_model.specs.Diagram.{Diagram, Bottom, Top, Literal, Decomposition, Elements, diagram_cmp}
@@ -26,6 +26,7 @@ use Rattle.sd_manager.specs.Shown.{Shows, ShowsCanonical}
 use Rattle.sd_manager.specs.Views.{pairs_at}
 use Rattle.sd_manager.specs.Valid.{IsTable}
 use Rattle.sd_file.specs.declared.known.Ordered.{Ordered}
+use Rattle.sd_file.specs.declared.known.Rank.TheVariants as rank
 use Rattle.sd_file.specs.declared.order.Found.{Found}
 use Rattle.sd_file.specs.Ordered.{Rank, rank_of, list_of}
 
@@ -37,9 +38,16 @@ Ranked = Rank × Rank × ℕ × ℕ
 abbrev pub RankedNode : Type 0
 RankedNode = ℕ × Vec Ranked Global × ℕ
 
--- the order of ranks
+-- The order of ranks: false, true, literals by position and the negative one first, and decompositions by position,
+-- then by their place among those of one position.
 abbrev pub rank_cmp : Rank → Rank → Ordering
-rank_cmp r s = ordering_then (ordering_then (nat_cmp r.0 s.0) (nat_cmp r.1 s.1)) (nat_cmp r.2 s.2)
+rank_cmp (rank.Constant a) (rank.Constant b) = bool_cmp a b
+rank_cmp (rank.Constant a) _ = Less
+rank_cmp (rank.Literal p s) (rank.Constant b) = Greater
+rank_cmp (rank.Literal p s) (rank.Literal q t) = ordering_then (nat_cmp p q) (bool_cmp s t)
+rank_cmp (rank.Literal p s) (rank.Decomposition q j) = Less
+rank_cmp (rank.Decomposition p i) (rank.Decomposition q j) = ordering_then (nat_cmp p q) (nat_cmp i j)
+rank_cmp (rank.Decomposition p i) _ = Greater
 
 -- the order of elements by ranks, and by codes where these are equal
 abbrev pub ranked_cmp : Ranked → Ranked → Ordering
@@ -58,10 +66,10 @@ codes_of e = (e.2, e.3)
 
 -- the rank is of the diagram's kind and position
 abbrev pub FitsRank : Diagram → Rank → Type 0
-FitsRank Bottom r = r ≡ (0, 0, 0)
-FitsRank Top r = r ≡ (0, 0, 1)
-FitsRank (Literal p x positive) r = r ≡ (1, p, cond positive 1 0)
-FitsRank (Decomposition p es) r = (r.0 ≡ 2) × (r.1 ≡ p)
+FitsRank Bottom r = r ≡ rank.Constant false
+FitsRank Top r = r ≡ rank.Constant true
+FitsRank (Literal p x positive) r = r ≡ rank.Literal p positive
+FitsRank (Decomposition p es) r = (place : ℕ) × (r ≡ rank.Decomposition p place)
 
 -- both codes of a pair have ranks
 abbrev pub HasRanks : Ordered → ℕ × ℕ → Type 0
@@ -113,7 +121,8 @@ pub record IsGiving (t : Table) (o : Ordered) (groups : BTreeMap ℕ (Vec ℕ Gl
   pub ranks : AreRanks t o
   pub fresh : IsFresh t o groups
   pub gone : (v : Vec ℕ Global) → ¬ (tree.get nat_cmp groups p ≡ Some v)
-  pub below : (c : ℕ) (r : Rank) (es : Elements) → rank_of o c ≡ Some r → Shows t c (Decomposition p es) → r.2 < index
+  pub below : (c place : ℕ) (es : Elements) → rank_of o c ≡ Some (rank.Decomposition p place) →
+      Shows t c (Decomposition p es) → place < index
   pub past : AllByRecursion (IsPast t o p) left
   pub entries : AllByRecursion (IsEntry t o p) left
   pub ascending : IsStrictlySortedBy entry_cmp left

@@ -8,8 +8,15 @@ ghost use Rattle.sd_file.specs.Known.{ArePlaced, known_at, place_at};
 use sd_manager::NodeId;
 use std::alloc::{AllocError, Global};
 
-/// Where a diagram stands in the structural order: its kind, its position, and its place among those of one position.
-pub(crate) type Rank = (u8, u32, usize);
+/// Where a diagram stands in the structural order: constants come first, then literals, then decompositions.
+#[derive(Clone, Copy, PartialEq, Eq, PartialOrd, Ord)]
+pub(crate) enum Rank {
+    Constant(bool),
+    // By positions, and the negative one first.
+    Literal { position: u32, positive: bool },
+    // By positions, and by the place among those of one position.
+    Decomposition { position: u32, place: usize },
+}
 
 /// The elements of the distinct decompositions at and below some nodes, each list in the structural order of primes.
 #[derive(Drop)]

@@ -158,7 +158,11 @@ fn give_all(
 {
     for (index, entry) in entries.iter().enumerate() {
         let list = pairs_of(alloc, &entry.1)?;
-        o.give(entry.2, (2, position, index), list)?;
+        let rank = Rank::Decomposition {
+            position,
+            place: index,
+        };
+        o.give(entry.2, rank, list)?;
     }
     Ok(())
 }
@@ -295,7 +299,7 @@ fn see(seen: &mut Vec<bool>, code: u32) -> Result<(), AllocError>
 fn constant_rank(value: bool) -> Rank
     ensures { FitsPlain (constant_diagram value) result }
 {
-    if value { (0, 0, 1) } else { (0, 0, 0) }
+    Rank::Constant(value)
 }
 
 // The rank of a literal of the vtree, as DIMACS has it.
@@ -306,11 +310,9 @@ fn literal_rank(m: &Manager, literal: i32) -> Rank
 {
     let variable = literal.unsigned_abs();
     let vtree = m.vtree();
-    let position = vtree.position(vtree.leaf(variable));
-    if literal > 0 {
-        (1, position, 1)
-    } else {
-        (1, position, 0)
+    Rank::Literal {
+        position: vtree.position(vtree.leaf(variable)),
+        positive: literal > 0,
     }
 }
 
