@@ -50,10 +50,10 @@ pub(crate) fn apply_cached(
         return Ok(NodeId(code));
     }
     // what no terminal case answers and has the constant true is the exclusive or with it
-    if a.0 == 1 {
+    if a.is_true() {
         return negate_cached(alloc, m, c, at, b);
     }
-    if b.0 == 1 {
+    if b.is_true() {
         return negate_cached(alloc, m, c, at, a);
     }
     // both orders of the operands have one entry

@@ -67,7 +67,7 @@ fn subtract_cached(
     if let Some(code) = known(a.0, b.0) {
         return Ok(NodeId(code));
     }
-    if a.0 == 1 {
+    if a.is_true() {
         return negate_cached(alloc, m, c, at, b);
     }
     look_up_or_subtract(alloc, m, c, at, a, b)

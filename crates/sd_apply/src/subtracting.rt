@@ -94,7 +94,7 @@ fn find_or_subtract(
     if let Some(code) = known(a.0, b.0) {
         return Ok(NodeId(code));
     }
-    if a.0 == 1 {
+    if a.is_true() {
         return negate_at(m, recent, at, b);
     }
     if let Some(code) = recent.look(DIFFERENCE, a.0, b.0) {

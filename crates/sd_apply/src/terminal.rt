@@ -78,9 +78,9 @@ pub(crate) fn at_opposites(operation: Operation) -> NodeId
     ensures { result ≡ opposites_code operation }
 {
     match operation {
-        Operation::And => NodeId(0),
-        Operation::Or => NodeId(1),
-        Operation::Xor => NodeId(1),
+        Operation::And => NodeId::FALSE,
+        Operation::Or => NodeId::TRUE,
+        Operation::Xor => NodeId::TRUE,
     }
 }
 

@@ -1,4 +1,4 @@
-use Rattle.std.proofs.Common.{◌≡◌, ◌∙◌, sym, Some, None}
+use Rattle.std.proofs.Common.{◌≡◌, Some, None}
 use Rattle.std.proofs.lemmas.Result.{IfOk-weaker, on_err_weaker}
 use Rattle.sd_apply.specs.Calls.{Applies, NegatesAt}
 use Rattle.sd_apply.proofs.TerminalLaws.{terminal_applies, terminal_at, applies_commutes}
@@ -25,72 +25,72 @@ returns-else-a-b-clause-ok c =
     (λ r h. applies_commutes m d.new.m c.args.operation c.args.at c.args.a c.args.b r h) d.ensures.ok
 
 -- the exclusive or with true is the negation
-pub returns-then-a-eq1-clause-ok : goal.returns-then-a-eq1-clause-ok
-returns-then-a-eq1-clause-ok c =
+pub returns-then-is_true-clause-ok : goal.returns-then-is_true-clause-ok
+returns-then-is_true-clause-ok c =
     let m = c.args.m.now in
     let n = c.negate_cached.new.m in
     let u = unknown c.args.operation c.args.a c.args.b
     (terminal_at c.args.operation c.number.result c.args.a c.args.b c.a.inside.0 c.b.inside.0 None
     c.number.ensures c.a.view_is c.b.view_is c.in_default.ensures) in
-    let one : c.args.a ≡ 1 = sym c.a.view_is ∙ c.if-a-eq1.true in
+    let one : c.args.a ≡ 1 = c.is_true.ensures.0 c.if-is_true.true in
     IfOk-weaker c.negate_cached.result (λ r. NegatesAt m n c.args.at c.args.b r)
     (λ r. Applies m n c.args.operation c.args.at c.args.a c.args.b r)
     (λ r h. xor_negation m n c.vtree.ensures.table c.args.operation c.args.at c.args.a c.args.b r
     (u.one one) one h)
     c.negate_cached.ensures.ok
 
-pub returns-then-a-eq1-clause-grown : goal.returns-then-a-eq1-clause-grown
-returns-then-a-eq1-clause-grown c =
+pub returns-then-is_true-clause-grown : goal.returns-then-is_true-clause-grown
+returns-then-is_true-clause-grown c =
     both_second c.args.m.now c.negate_cached.new.m c.args.a c.args.b c.negate_cached.ensures.grown
 
-pub returns-then-b-eq1-clause-ok : goal.returns-then-b-eq1-clause-ok
-returns-then-b-eq1-clause-ok c =
+pub returns-then-is_true-2-clause-ok : goal.returns-then-is_true-2-clause-ok
+returns-then-is_true-2-clause-ok c =
     let m = c.args.m.now in
-    let d = c.negate_cached-then-b-eq1 in
+    let d = c.negate_cached-then-is_true-2 in
     let u = unknown c.args.operation c.args.a c.args.b
     (terminal_at c.args.operation c.number.result c.args.a c.args.b c.a.inside.0 c.b.inside.0 None
     c.number.ensures c.a.view_is c.b.view_is c.in_default.ensures) in
-    let one : c.args.b ≡ 1 = sym c.b.view_is ∙ c.if-b-eq1.true in
+    let one : c.args.b ≡ 1 = c.is_true-2.ensures.0 c.if-is_true-2.true in
     IfOk-weaker d.result (λ r. NegatesAt m d.new.m c.args.at c.args.a r)
     (λ r. Applies m d.new.m c.args.operation c.args.at c.args.a c.args.b r)
     (λ r h. xor_negation_second m d.new.m c.vtree.ensures.table c.args.operation c.args.at
     c.args.a c.args.b r (u.other one) one h)
     d.ensures.ok
 
-pub returns-then-b-eq1-clause-grown : goal.returns-then-b-eq1-clause-grown
-returns-then-b-eq1-clause-grown c =
-    both_first c.args.m.now c.negate_cached-then-b-eq1.new.m c.args.a c.args.b
-    c.negate_cached-then-b-eq1.ensures.grown
+pub returns-then-is_true-2-clause-grown : goal.returns-then-is_true-2-clause-grown
+returns-then-is_true-2-clause-grown c =
+    both_first c.args.m.now c.negate_cached-then-is_true-2.new.m c.args.a c.args.b
+    c.negate_cached-then-is_true-2.ensures.grown
 
 -- where the nodes but the answer stand
 
-pub returns-then-a-eq1-clause-one : goal.returns-then-a-eq1-clause-one
-returns-then-a-eq1-clause-one c =
+pub returns-then-is_true-clause-one : goal.returns-then-is_true-clause-one
+returns-then-is_true-clause-one c =
     let m = c.args.m.now in
     let n = c.negate_cached.new.m in
     IfOk-weaker c.negate_cached.result (λ r. GrowsByAnswerBoth m n c.args.b c.args.b r)
     (λ r. GrowsByAnswerBoth m n c.args.a c.args.b r) (λ r h. by_second m n c.args.a c.args.b r h)
     c.negate_cached.ensures.one
 
-pub returns-then-a-eq1-clause-none : goal.returns-then-a-eq1-clause-none
-returns-then-a-eq1-clause-none c =
+pub returns-then-is_true-clause-none : goal.returns-then-is_true-clause-none
+returns-then-is_true-clause-none c =
     on_err_weaker c.negate_cached.result
     (λ h. strictly_second c.args.m.now c.negate_cached.new.m c.args.a c.args.b h)
     c.negate_cached.ensures.none
 
-pub returns-then-b-eq1-clause-one : goal.returns-then-b-eq1-clause-one
-returns-then-b-eq1-clause-one c =
+pub returns-then-is_true-2-clause-one : goal.returns-then-is_true-2-clause-one
+returns-then-is_true-2-clause-one c =
     let m = c.args.m.now in
-    let n = c.negate_cached-then-b-eq1.new.m in
-    IfOk-weaker c.negate_cached-then-b-eq1.result (λ r. GrowsByAnswerBoth m n c.args.a c.args.a r)
+    let n = c.negate_cached-then-is_true-2.new.m in
+    IfOk-weaker c.negate_cached-then-is_true-2.result (λ r. GrowsByAnswerBoth m n c.args.a c.args.a r)
     (λ r. GrowsByAnswerBoth m n c.args.a c.args.b r) (λ r h. by_first m n c.args.a c.args.b r h)
-    c.negate_cached-then-b-eq1.ensures.one
+    c.negate_cached-then-is_true-2.ensures.one
 
-pub returns-then-b-eq1-clause-none : goal.returns-then-b-eq1-clause-none
-returns-then-b-eq1-clause-none c =
-    on_err_weaker c.negate_cached-then-b-eq1.result
-    (λ h. strictly_first c.args.m.now c.negate_cached-then-b-eq1.new.m c.args.a c.args.b h)
-    c.negate_cached-then-b-eq1.ensures.none
+pub returns-then-is_true-2-clause-none : goal.returns-then-is_true-2-clause-none
+returns-then-is_true-2-clause-none c =
+    on_err_weaker c.negate_cached-then-is_true-2.result
+    (λ h. strictly_first c.args.m.now c.negate_cached-then-is_true-2.new.m c.args.a c.args.b h)
+    c.negate_cached-then-is_true-2.ensures.none
 
 pub returns-else-a-b-clause-one : goal.returns-else-a-b-clause-one
 returns-else-a-b-clause-one c =

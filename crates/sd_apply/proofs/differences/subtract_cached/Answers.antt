@@ -1,4 +1,4 @@
-use Rattle.std.proofs.Common.{◌≡◌, ◌∙◌, sym, Some, None}
+use Rattle.std.proofs.Common.{◌≡◌, Some}
 use Rattle.std.proofs.lemmas.Result.{IfOk-weaker}
 use Rattle.sd_apply.specs.Calls.{NegatesAt}
 use Rattle.sd_apply.specs.Difference.{SubtractsAt}
@@ -12,16 +12,16 @@ returns-in-Some-clause-ok c =
     (known_at c.args.a c.args.b c.a.inside.0 c.b.inside.0 (Some c.in-Some.code) c.a.view_is c.b.view_is
     c.in-Some.ensures)
 
-pub returns-then-a-eq1-clause-ok : goal.returns-then-a-eq1-clause-ok
-returns-then-a-eq1-clause-ok c =
+pub returns-then-is_true-clause-ok : goal.returns-then-is_true-clause-ok
+returns-then-is_true-clause-ok c =
     let m = c.args.m.now in
     let n = c.negate_cached.new.m in
-    let one : c.args.a ≡ 1 = sym c.a.view_is ∙ c.if-a-eq1.true in
+    let one : c.args.a ≡ 1 = c.is_true.ensures.0 c.if-is_true.true in
     IfOk-weaker c.negate_cached.result (λ r. NegatesAt m n c.args.at c.args.b r)
     (λ r. SubtractsAt m n c.args.at c.args.a c.args.b r)
     (λ r h. true_subtracts m n c.vtree.ensures.table c.args.at c.args.a c.args.b r one h)
     c.negate_cached.ensures.ok
 
-pub returns-then-a-eq1-clause-grown : goal.returns-then-a-eq1-clause-grown
-returns-then-a-eq1-clause-grown c =
+pub returns-then-is_true-clause-grown : goal.returns-then-is_true-clause-grown
+returns-then-is_true-clause-grown c =
     both_second c.args.m.now c.negate_cached.new.m c.args.a c.args.b c.negate_cached.ensures.grown

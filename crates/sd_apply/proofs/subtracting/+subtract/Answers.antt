@@ -1,4 +1,4 @@
-use Rattle.std.proofs.Common.{◌≡◌, ◌∙◌, sym, subst, ℕ, ◌+◌, ◌*◌, ◌≤◌, ◌<◌, arith, Some, None, IfOk}
+use Rattle.std.proofs.Common.{◌≡◌, sym, subst, ℕ, ◌+◌, ◌*◌, ◌≤◌, ◌<◌, arith, Some, None, IfOk}
 use Rattle.std.proofs.lemmas.Result.{IfOk-weaker}
 use Rattle.sd_vtree.specs.Numbered.{IsUnder as StandsUnder}
 use Rattle.sd_manager.proofs.Extending.{extends_on}
@@ -27,11 +27,11 @@ find_or_subtract-returns-in-Some-clause-ok t c =
     (known_at c.args.a c.args.b c.a.inside.0 c.b.inside.0 (Some c.in-Some.code) c.a.view_is c.b.view_is
     c.in-Some.ensures)
 
-pub find_or_subtract-returns-then-a-eq1-clause-ok : goal.find_or_subtract-returns-then-a-eq1-clause-ok
-find_or_subtract-returns-then-a-eq1-clause-ok t c =
+pub find_or_subtract-returns-then-is_true-clause-ok : goal.find_or_subtract-returns-then-is_true-clause-ok
+find_or_subtract-returns-then-is_true-clause-ok t c =
     let m = c.args.m.now in
     let n = c.negate_at.new.m in
-    let one : c.args.a ≡ 1 = sym c.a.view_is ∙ c.if-a-eq1.true in
+    let one : c.args.a ≡ 1 = c.is_true.ensures.0 c.if-is_true.true in
     IfOk-weaker c.negate_at.result (λ r. NegatesAt m n c.args.at c.args.b r)
     (λ r. SubtractsAt m n c.args.at c.args.a c.args.b r)
     (λ r h. true_subtracts m n c.vtree.ensures.table c.args.at c.args.a c.args.b r one h)
@@ -39,14 +39,14 @@ find_or_subtract-returns-then-a-eq1-clause-ok t c =
 
 pub find_or_subtract-returns-in-Some-look-clause-ok : goal.find_or_subtract-returns-in-Some-look-clause-ok
 find_or_subtract-returns-in-Some-look-clause-ok t c =
-    right_subtracts c.args.m.now c.args.at c.args.a c.args.b 0 c.a.inside.0 c.b.inside.0 c.in-Some-look.code
-    c.vtree.ensures.table c.a.view_is c.b.view_is (c.in-Some-look.ensures.right c.args.m.now c.requires.knows)
+    right_subtracts c.args.m.now c.args.at c.args.a c.args.b 0 c.a-2.inside.0 c.b.inside.0 c.in-Some-look.code
+    c.vtree.ensures.table c.a-2.view_is c.b.view_is (c.in-Some-look.ensures.right c.args.m.now c.requires.knows)
 
 pub find_or_subtract-subtract_anew-requires : goal.find_or_subtract-subtract_anew-requires
 find_or_subtract-subtract_anew-requires t c =
     let u = are_unknown c.args.a c.args.b (known_at c.args.a c.args.b c.a.inside.0 c.b.inside.0 None c.a.view_is
     c.b.view_is c.in_default.ensures) in
-    let other : ¬ (c.args.a ≡ 1) = λ e. c.if-a-eq1.false (c.a.view_is ∙ e) in
+    let other : ¬ (c.args.a ≡ 1) = λ e. absurd (cc (c.is_true.ensures.1 e, c.if-is_true.false)) in
     let small : 8 * width c.args.m.now.vtree c.args.at + 3 < t = omega (arith, c.decreases) in (
       small,
       (
