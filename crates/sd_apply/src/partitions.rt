@@ -65,10 +65,8 @@ pub fn expand_at(
 }
 
 /// The products of two lists of elements at a vtree node, without those that have a false prime. The second list is a
-/// partition; of the first at most one prime is true under each assignment. It refuses as `and`. It
-/// allocates by the table's own allocator.
+/// partition; of the first at most one prime is true under each assignment. It refuses as `and`.
 pub fn multiply_at(
-    _alloc: Global,
     m: &mut Manager,
     recent: &mut Recent,
     operation: Operation,

@@ -237,7 +237,7 @@ pub(crate) fn product_at(
     let first = expand_at(alloc, m, recent, place, prime)?;
     let second = expand_at(alloc, m, recent, place, sub)?;
     let (one, other) = (first.as_slice(), second.as_slice());
-    multiply_at(alloc, m, recent, Operation::And, place, one, other)
+    multiply_at(m, recent, Operation::And, place, one, other)
 }
 
 // A partition of the lower vtree node, true where both primes of some branches from an index on are, which lead to one

@@ -106,15 +106,7 @@ fn cut_in_turn(
     };
     for index in 0..parts.len() {
         let part = parts[index].as_slice();
-        list = multiply_at(
-            alloc,
-            m,
-            recent,
-            Operation::Or,
-            place,
-            list.as_slice(),
-            part,
-        )?;
+        list = multiply_at(m, recent, Operation::Or, place, list.as_slice(), part)?;
     }
     Ok(list)
 }
@@ -151,7 +143,7 @@ fn add_sums(
     }
     let other = expand_at(alloc, m, recent, place, sum)?;
     let sums = other.as_slice();
-    let mut joined = multiply_at(alloc, m, recent, Operation::Or, place, list, sums)?;
+    let mut joined = multiply_at(m, recent, Operation::Or, place, list, sums)?;
     let Ok(()) = all.append(&mut joined) else {
         return Err(TakeError::OutOfMemory);
     };
