@@ -1,5 +1,6 @@
 -- Texts that are written part by part.
-use Rattle.std.proofs.Common.{◌≡◌, ℕ, List, [], ◌∷◌, ◌++◌, Option, Some, None, refl, sym, ap, ◌∙◌, append_assoc}
+use Rattle.std.proofs.Common.{◌≡◌, ℕ, List, [], ◌∷◌, ◌++◌, Option, sym, ap, ◌∙◌}
+use Rattle.std.proofs.Common.{Result, Ok, Err, OnErr, append_assoc}
 use Rattle.std.specs.Prelude.{codes}
 use Rattle.std.proofs.lemmas.List.{append-nil}
 use Rattle.sd_model.specs.Text.{number_text}
@@ -8,14 +9,8 @@ use Rattle.sd_formula.specs.Dimacs.{formula_fault_text}
 use Rattle.sd_vfile.specs.declared.fault.VtreeFault.TheVariants.{NodesRange}
 use Rattle.sd_vfile.specs.Reads.{vtree_fault_text}
 use Rattle.sd_tool.specs.Ends.{line_of}
-use Rattle.sd_tool.specs.Parts.{parts_text, number_seen}
-use Rattle.sd_tool.specs.declared.parts.Parts.{Parts}
 use Rattle.sd_base.specs.Sink.{told_then, AppendsPart}
-
--- one text after another
-pub told_then_then : (told : Option (List ℕ)) (a b : List ℕ) → told_then (told_then told a) b ≡ told_then told (a ++ b)
-told_then_then None a b = refl
-told_then_then (Some written) a b = ap Some (append_assoc written a b)
+use Rattle.sd_base.proofs.FileLemmas.{told_then_told_then}
 
 -- a part of the first of two texts
 pub part_of_first : (old new : Option (List ℕ)) (a b : List ℕ) → AppendsPart old a new
@@ -34,22 +29,18 @@ part_of_second old mid new a b first part = record {
   front = a ++ part.front;
   rest = part.rest;
   of_bytes = append_assoc a part.front part.rest ∙ ap (λ (l : List ℕ). a ++ l) part.of_bytes;
-  written = part.written ∙ ap (λ told. told_then told part.front) first ∙ told_then_then old a part.front;
+  written = part.written ∙ ap (λ told. told_then told part.front) first ∙ told_then_told_then old a part.front;
 }
 
--- the first of two texts, and the second
-pub then_second : (old mid new : Option (List ℕ)) (a b : List ℕ) → mid ≡ told_then old a
-    → new ≡ told_then mid b → new ≡ told_then old (a ++ b)
-then_second old mid new a b first second =
-    second ∙ ap (λ told. told_then told b) first ∙ told_then_then old a b
+-- what stands after a failure stands where there is one
+pub at_err : {A F P : Type 0} (result : Result A F) → P → OnErr result P
+at_err (Ok x) p = tt
+at_err (Err e) p = p
 
--- the text of parts, with the digits of their numbers
-pub parts_are : (p : Parts) (f g : List ℕ) → f ≡ number_seen p.first → g ≡ number_seen p.second
-    → p.subject.now ++ p.before.now ++ f ++ p.between.now ++ g ++ p.after.now ≡ parts_text p
-parts_are p f g first second =
-    ap (λ (l : List ℕ). p.subject.now ++ p.before.now ++ l ++ p.between.now ++ g ++ p.after.now) first
-    ∙ ap (λ (l : List ℕ). p.subject.now ++ p.before.now ++ number_seen p.first ++ p.between.now ++ l ++ p.after.now)
-    second
+-- three texts, of which the second and the third have two parts
+pub parts_joined : (a n t m u : List ℕ) → a ++ (n ++ t) ++ (m ++ u) ≡ a ++ n ++ t ++ m ++ u
+parts_joined a n t m u =
+    sym (append_assoc (a ++ (n ++ t)) m u) ∙ ap (λ (l : List ℕ). l ++ m ++ u) (sym (append_assoc a n t))
 
 -- the line of two halves, as it is written
 pub line_is : (front back : List ℕ)

@@ -16,18 +16,26 @@ use sd_base::{Sink, WriteFault, write_all};
 /// one after another, a number in decimal.
 #[derive(Clone, Copy, Debug)]
 pub struct Parts<'a> {
+    /// What the text is about: a file, or nothing.
     pub subject: &'a [u8],
+    /// The text up to the first number, or all of it.
     pub before: &'a [u8],
+    /// The first number.
     pub first: Option<u64>,
+    /// The text behind it.
     pub between: &'static [u8],
+    /// The second number.
     pub second: Option<u64>,
+    /// The text behind that one.
     pub after: &'static [u8],
 }
 
 /// The two halves of a line.
 #[derive(Clone, Copy, Debug)]
 pub struct LineParts<'a> {
+    /// The first half, behind the name of the program.
     pub front: Parts<'a>,
+    /// The second one, often empty.
     pub back: Parts<'a>,
 }
 
@@ -205,14 +213,22 @@ fn write_parts<E: Sink>(err: &mut E, parts: &Parts<'_>) -> Result<(), WriteFault
     ensures cause { OnErr result (Rose (E.faults err.old) (E.faults err.new)) }
     ensures faults { E.faults err.old ≤ E.faults err.new }
 {
-    let mut first = Buffer::new();
-    let mut second = Buffer::new();
-    write_text(
-        err,
-        parts,
-        digits(&mut first, parts.first),
-        digits(&mut second, parts.second),
-    )
+    write_both(err, parts.subject, parts.before)?;
+    write_number(err, parts.first, parts.between)?;
+    write_number(err, parts.second, parts.after)
+}
+
+// Writes a number in decimal, if it is there, and the text behind it.
+fn write_number<E: Sink>(err: &mut E, number: Option<u64>, text: &[u8]) -> Result<(), WriteFault>
+    ensures ok { OnOk result (E.written err.new
+        ≡ told_then (E.written err.old) (number_seen number ++ text.now)) }
+    ensures err { OnErr result
+        (AppendsPart (E.written err.old) (number_seen number ++ text.now) (E.written err.new)) }
+    ensures cause { OnErr result (Rose (E.faults err.old) (E.faults err.new)) }
+    ensures faults { E.faults err.old ≤ E.faults err.new }
+{
+    let mut buffer = Buffer::new();
+    write_both(err, digits(&mut buffer, number), text)
 }
 
 // A number in decimal, if it is there.
@@ -231,60 +247,15 @@ fn number_digits(buffer: &mut Buffer, number: u64) -> &[u8]
     buffer.format(number).as_bytes()
 }
 
-// Writes the text of these parts, whose numbers have these digits.
-fn write_text<E: Sink>(
-    err: &mut E,
-    parts: &Parts<'_>,
-    first: &[u8],
-    second: &[u8],
-) -> Result<(), WriteFault>
-    requires first { first.now ≡ number_seen parts.now.first }
-    requires second { second.now ≡ number_seen parts.now.second }
+// Writes a text, and another one behind it.
+fn write_both<E: Sink>(err: &mut E, first: &[u8], second: &[u8]) -> Result<(), WriteFault>
     ensures ok { OnOk result (E.written err.new
-        ≡ told_then (E.written err.old) (parts_text parts.now)) }
+        ≡ told_then (E.written err.old) (first.now ++ second.now)) }
     ensures err { OnErr result
-        (AppendsPart (E.written err.old) (parts_text parts.now) (E.written err.new)) }
+        (AppendsPart (E.written err.old) (first.now ++ second.now) (E.written err.new)) }
     ensures cause { OnErr result (Rose (E.faults err.old) (E.faults err.new)) }
     ensures faults { E.faults err.old ≤ E.faults err.new }
 {
-    let Ok(()) = write_four(err, parts.subject, parts.before, first, parts.between) else {
-        return Err(WriteFault);
-    };
-    let Ok(()) = write_all(err, second) else {
-        return Err(WriteFault);
-    };
-    match write_all(err, parts.after) {
-        Ok(()) => Ok(()),
-        Err(_) => Err(WriteFault),
-    }
-}
-
-// Writes one after another.
-fn write_four<E: Sink>(
-    err: &mut E,
-    a: &[u8],
-    b: &[u8],
-    c: &[u8],
-    d: &[u8],
-) -> Result<(), WriteFault>
-    ensures ok { OnOk result (E.written err.new
-        ≡ told_then (E.written err.old) (a.now ++ b.now ++ c.now ++ d.now)) }
-    ensures err { OnErr result
-        (AppendsPart (E.written err.old) (a.now ++ b.now ++ c.now ++ d.now) (E.written err.new)) }
-    ensures cause { OnErr result (Rose (E.faults err.old) (E.faults err.new)) }
-    ensures faults { E.faults err.old ≤ E.faults err.new }
-{
-    let Ok(()) = write_all(err, a) else {
-        return Err(WriteFault);
-    };
-    let Ok(()) = write_all(err, b) else {
-        return Err(WriteFault);
-    };
-    let Ok(()) = write_all(err, c) else {
-        return Err(WriteFault);
-    };
-    match write_all(err, d) {
-        Ok(()) => Ok(()),
-        Err(_) => Err(WriteFault),
-    }
+    write_all(err, first)?;
+    write_all(err, second)
 }
