@@ -1,5 +1,5 @@
 -- A circuit that is read has inputs and outputs, in their ranges.
-use Rattle.std.proofs.Common.{◌≡◌, ℕ, Bool, true, false, not, List, [], ◌∷◌, Result, Ok, Err}
+use Rattle.std.proofs.Common.{◌≡◌, ℕ, Bool, true, false, not, List, [], ◌∷◌, Ok}
 use Rattle.std.proofs.Common.{refl, sym, ap, subst, ◌∙◌}
 use Rattle.std.specs.Prelude.{nat_le}
 use Rattle.std.proofs.lemmas.Bool.{leb-true, and_parts}
@@ -11,13 +11,8 @@ use Rattle.sd_aiger.specs.Reads.{Header, header_of, header_in_range, in_range, c
 use Rattle.sd_aiger.specs.Reads.{circuit_of_lines, aiger}
 use Rattle.sd_aiger.proofs.Reading.{gave, passed}
 use Rattle.sd_aiger.proofs.Read.{is_read}
+use Rattle.sd_script.proofs.Allowed.{went_on}
 use Rattle.sd_tool.specs.Formats.{AreVariables, HasBothKinds}
-
--- a step that had no fault, and what follows
-followed : {A B : Type 0} (r : Result A (List ℕ)) (s : Result B (List ℕ)) (x : B) → (r >> s) ≡ Ok x
-    → (a : A) × (r ≡ Ok a) × (s ≡ Ok x)
-followed (Ok a) s x h = (a, refl, h)
-followed (Err e) s x h = cc
 
 -- a number that is not out of range
 in_limits : (n : ℕ) → not (is_within 1 1024 n) ≡ false → AreVariables n
@@ -48,12 +43,12 @@ both_kinds bytes c e = by (numbered_lines bytes) e
         (λ h. circuit_of h lines >>= λ c. all_defined h c >> (no_cycle h c >> Ok c)) c e in
         let h = header.0 in
         let circuit = gave (circuit_of h lines) (λ c. all_defined h c >> (no_cycle h c >> Ok c)) c header.2 in
-        let defined = followed (all_defined h circuit.0) (no_cycle h circuit.0 >> Ok circuit.0) c circuit.2 in
-        let last = followed (no_cycle h circuit.0) (Ok circuit.0) c defined.2 in
+        let defined = went_on (all_defined h circuit.0) (no_cycle h circuit.0 >> Ok circuit.0) c circuit.2 in
+        let last = went_on (no_cycle h circuit.0) (Ok circuit.0) c defined.2 in
         let same : circuit.0 ≡ c = cc (last.2) in
         let read = is_read h lines circuit.0 circuit.1 in
         let stated = gave (header_of first.words) (λ h. in_range h >> Ok h) h header.1 in
-        let ranged = followed (in_range stated.0) (Ok stated.0) h stated.2 in
+        let ranged = went_on (in_range stated.0) (Ok stated.0) h stated.2 in
         let own : stated.0 ≡ h = cc (ranged.2) in
         let limits = header_limits stated.0 ranged.0 ranged.1 in
         subst HasBothKinds same (record {

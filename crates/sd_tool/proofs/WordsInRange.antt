@@ -1,18 +1,16 @@
 -- The numbers of a generated formula are in their ranges where the words are a job.
-use Rattle.std.proofs.Common.{◌≡◌, ℕ, ◌≤◌, Bool, true, false, List, [], ◌∷◌, Option, Some, None, Ok, Err, is_none}
+use Rattle.std.proofs.Common.{◌≡◌, ℕ, Bool, true, false, List, [], ◌∷◌, Option, Some, None, Ok, Err, is_none}
 use Rattle.std.proofs.Common.{refl, ap, subst, sym, ◌∙◌, arith, drop}
-use Rattle.std.specs.Bool.{then_some}
-use Rattle.std.specs.Prelude.{codes, ◌==◌, option_map, option_and_then, if◌then◌else◌, is_some, nat_le, count_by}
+use Rattle.std.specs.Prelude.{codes, ◌==◌, option_map, option_and_then, if◌then◌else◌, is_some, count_by}
 use Rattle.std.specs.Option.{option_map_or}
 use Rattle.std.specs.List.{after_first, before_first}
-use Rattle.std.proofs.lemmas.Bool.{leb-true, and_parts}
 use Rattle.sd_formula.specs.Generated.{IsGenerable}
 use Rattle.sd_words.specs.Command.{accepts, parsed_by}
-use Rattle.sd_base.specs.Numbers.{is_within, natural_to}
-use Rattle.sd_words.specs.Numbers.{number_within, both, count_and_seed}
+use Rattle.sd_words.specs.Numbers.{both, count_and_seed}
 use Rattle.sd_words.specs.ParsedOptions.{ParsedOptions, fails, has_bad_number}
 use Rattle.sd_words.specs.JobOf.{job_of, job_of_parsed, input_of, first_some, unless}
 use Rattle.sd_words.specs.Rows.{fault_where, rows, no_input, two_inputs, two_vtrees, number_range}
+use Rattle.sd_words.proofs.Fitting.{in_range_number}
 use Rattle.sd_words.proofs.JobLemmas.{job_of_rows}
 use Rattle.sd_words.specs.declared.faults.WordsFault.{WordsFault}
 use Rattle.sd_words.specs.declared.faults.WordsFault.TheVariants as words
@@ -29,26 +27,7 @@ IsInRange word = Unit {0}
 
 -- ---- two numbers
 
--- a number that is there is in its range
-within_range : (least most n m : ℕ) → then_some (is_within least most n) n ≡ Some m → (least ≤ m) × (m ≤ most)
-within_range least most n m = go (is_within least most n) refl
-  where
-    go : (b : Bool) → is_within least most n ≡ b → then_some b n ≡ Some m → (least ≤ m) × (m ≤ most)
-    go true both_hold is =
-        let same : n ≡ m = cc in
-        let parts = and_parts (nat_le least n) (nat_le n most) both_hold in
-        subst (λ (k : ℕ). (least ≤ k) × (k ≤ most)) same (leb-true least n parts.0, leb-true n most parts.1)
-    go false both_hold is = let bad : ⊥ = cc in absurd bad
-
-in_range_number : (least most : ℕ) (text : List ℕ) (m : ℕ) → number_within least most text ≡ Some m
-    → (least ≤ m) × (m ≤ most)
-in_range_number least most text m = go (natural_to 10 text)
-  where
-    go : (n : Option ℕ) → option_and_then (λ n. then_some (is_within least most n) n) n ≡ Some m
-        → (least ≤ m) × (m ≤ most)
-    go (Some n) is = within_range least most n m is
-    go None is = let bad : ⊥ = cc in absurd bad
-
+-- both numbers are there
 both_there : (a b : Option ℕ) (p : ℕ × ℕ) → both a b ≡ Some p → (a ≡ Some p.0) × (b ≡ Some p.1)
 both_there (Some a) (Some b) p is =
     let same : (a, b) ≡ p = cc in (ap (λ (q : ℕ × ℕ). Some q.0) same, ap (λ (q : ℕ × ℕ). Some q.1) same)
