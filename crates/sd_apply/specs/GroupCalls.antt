@@ -103,9 +103,11 @@ pub record IsFound (t : Table) (o : Operation) (literals : List (ℕ × ℤ)) (f
 abbrev pub IsFoundBefore : Table → Operation → List (ℕ × ℤ) → ℕ → ℕ → ℕ → Type 0
 IsFoundBefore t o literals node next answer = (from : ℕ) → next ≡ suc from → IsFound t o literals from node answer
 
+-- an entry has the answer at its node
 abbrev pub IsRightEntry : Table → Operation → List (ℕ × ℤ) → NodeEntry → Type 0
 IsRightEntry t o literals e = IsFoundBefore t o literals e.node e.next e.answer
 
+-- so has each entry of a list
 abbrev pub AreRightEntries : Table → Operation → List (ℕ × ℤ) → List NodeEntry → Type 0
 AreRightEntries t o literals es = All (IsRightEntry t o literals) es
 

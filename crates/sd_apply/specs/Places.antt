@@ -43,7 +43,7 @@ pub record IsThere (t : Numbered) (u : ℕ) : Type 0 where
   pub part : Numbered
   pub is : subtree t u ≡ Some part
 
--- ---- for the contracts of private functions
+-- ---- for the contract of `place_with_children`, and of private functions here and in `sd_cond`
 
 -- how many variables are below a vtree node
 abbrev pub width : Numbered → ℕ → ℕ

@@ -33,9 +33,9 @@ use Rattle.sd_commands.specs.declared.command.RunCommand.{RunCommand}
 use Rattle.sd_commands.specs.declared.command.RunCommand.TheVariants as commands
 use Rattle.sd_commands.specs.declared.command.NumberedCommand.{NumberedCommand}
 
--- what a run holds between two commands: the bound names with their formulas, the last one first, the tree, the limit
--- of the total size, how many hundredths of the size at its start a walk of a search may reach, of which number a
--- group's is to be a multiple, so that a search follows it, and the circuit
+-- What a run holds between two commands: the bound names with their formulas, the last one first, the tree, the limit
+-- of the total size, and the circuit. A walk of a search may reach so many hundredths (`slack`) of the size at its
+-- start. Where `every` is there, a search follows each group of the input whose number is a multiple of it.
 pub record State : Type 0 where
   pub names : List (ℕ × Expression)
   pub tree : Tree

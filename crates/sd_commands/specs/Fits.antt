@@ -74,5 +74,6 @@ AllFit v o names (c ∷ cs) = Fits v o names c.command × AllFit v o (bound_afte
 abbrev pub of_no_line : RunCommand → NumberedCommand
 of_no_line c = record { line = 0; command = c }
 
+-- such commands in a row
 abbrev pub unnumbered : List RunCommand → List NumberedCommand
 unnumbered commands = map of_no_line commands

@@ -46,7 +46,7 @@ use Rattle.sd_commands.specs.declared.error.CommandError.TheVariants as errors
 use Rattle.sd_commands.specs.declared.gates.SharedCircuit.{SharedCircuit}
 use Rattle.sd_commands.specs.declared.state.RunState.{RunState}
 
--- no name is bound, and there is no circuit
+-- the state in which no name is bound, with this tree, limit, slack and `every`, and without a circuit
 abbrev pub start : Tree → ℕ → ℕ → Option ℕ → State
 start tree limit slack every = record {
   names = [];
@@ -228,6 +228,7 @@ abbrev pub effect_of : CodeEffect → Effect
 effect_of (WriteFile file bytes) = Write file bytes
 effect_of (PrintLine line) = Print line
 
+-- one effect of the code, or none
 abbrev pub effects_of : Option CodeEffect → List Effect
 effects_of None = []
 effects_of (Some effect) = effect_of effect ∷ []

@@ -12,6 +12,7 @@ use Rattle.sd_cond.specs.Calls.{conditioned, forgotten, IsAnswer}
 abbrev pub IsRightEntry : Table → (Diagram → List Bool → Bool) → Entry → Type 0
 IsRightEntry t f e = ¬ (e.code ≡ 0) → IsAnswer t f e.code e.answer
 
+-- so has each entry of a list
 abbrev pub AreRightEntries : Table → (Diagram → List Bool → Bool) → List Entry → Type 0
 AreRightEntries t f es = All (λ e. IsRightEntry t f e) es
 

@@ -7,7 +7,7 @@ use Rattle.sd_file.specs.declared.file.FileNode.{FileNode}
 use Rattle.sd_file.specs.declared.file.FileNode.TheVariants as kinds
 use Rattle.sd_file.specs.Reads.{Node, Entry, File}
 
--- no node
+-- what stands for the entry of a number past the last
 abbrev pub no_entry : Entry
 no_entry = record { id = 0; node = (0, FileConstant false) }
 

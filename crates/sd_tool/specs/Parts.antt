@@ -9,6 +9,7 @@ abbrev pub number_seen : Option ℕ → List ℕ
 number_seen None = []
 number_seen (Some n) = number_text n
 
+-- the text of parts, one behind the other
 abbrev pub parts_text : Parts → List ℕ
 parts_text p =
     p.subject.now ++ p.before.now ++ number_seen p.first ++ p.between.now ++ number_seen p.second ++ p.after.now

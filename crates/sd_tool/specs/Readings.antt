@@ -204,7 +204,8 @@ with_input_word job (inputs.Check file) = with_check job file job.tree
 abbrev pub reading_of : List (List ℕ) → Point
 reading_of words = or_refused 1 [] (λ job. with_input_word job job.input) (job_of words)
 
--- where the files are told, the file of this name reads so
+-- Where the files are told, the file of this name has this text, of at most 67,108,864 bytes. Of a longer one, which is
+-- too long, no text is given.
 abbrev pub IsText : Option Files → List ℕ → Option (List ℕ) → Type 0
 IsText None file text = Unit {0}
 IsText (Some files) file (Some bytes) = (get files file ≡ Some bytes) × (length bytes ≤ 67108864)

@@ -36,6 +36,7 @@ end_of (stops.ArenaFull elements) = NoRoom elements
 end_of (stops.NotMovable line) = NotMovable line
 end_of (stops.OverLimit line group size limit) = OverLimit line group size limit
 
+-- the status of a stop
 abbrev pub stop_status : Stop → ℕ
 stop_status stop = status_of (end_of stop)
 
