@@ -6,24 +6,23 @@ use Rattle.sd_vtree.proofs.vtree.Vtree.+lca_below.Goals as goal
 
 pub lca_below-requires : goal.lca_below-requires
 lca_below-requires t c =
-    let p = inner_pair c.children.ensures.numbered c.in-Some-children.ensures.children in
+    let p = inner_pair c.children.ensures.numbered c.in-Some.ensures.children in
     let d : size_at c.args.self.now c.args.node ≡ t = c.decreases in
-    (smaller p.left_smaller d, (p.left_within, (c.requires.order, c.requires.within)))
+    (smaller p.left_smaller d, (p.left_within, c.requires.order))
 
 pub lca_below-requires-then-here-low : goal.lca_below-requires-then-here-low
 lca_below-requires-then-here-low t c =
-    let p = inner_pair c.children.ensures.numbered c.in-Some-children.ensures.children in
+    let p = inner_pair c.children.ensures.numbered c.in-Some.ensures.children in
     let d : size_at c.args.self.now c.args.node ≡ t = c.decreases in
-    (smaller p.right_smaller d, (p.right_within, (c.requires.order, c.requires.within)))
+    (smaller p.right_smaller d, (p.right_within, c.requires.order))
 
-pub returns-in_default-children : goal.returns-in_default-children
-returns-in_default-children t c = λ a b f g u w.
-    lowest_leaf c.args.self.now c.args.node a b c.in_default-children.ensures.children u w
+pub returns-in_default : goal.returns-in_default
+returns-in_default t c = λ a b f g u w. lowest_leaf c.args.self.now c.args.node a b c.in_default.ensures.children u w
 
 pub returns-then-high-here : goal.returns-then-high-here
 returns-then-high-here t c = λ a b f g u w.
     let v = c.children.ensures.numbered in
-    let p = inner_pair v c.in-Some-children.ensures.children in
+    let p = inner_pair v c.in-Some.ensures.children in
     let h = c.position-here.ensures.position in
     let x = c.if-high-here.true in
     let o = c.requires.order in
@@ -36,7 +35,7 @@ returns-then-high-here t c = λ a b f g u w.
 pub returns-then-here-low : goal.returns-then-here-low
 returns-then-here-low t c = λ a b f g u w.
     let v = c.children.ensures.numbered in
-    let p = inner_pair v c.in-Some-children.ensures.children in
+    let p = inner_pair v c.in-Some.ensures.children in
     let h = c.position-here.ensures.position in
     let x = c.if-here-low.true in
     let o = c.requires.order in
@@ -49,7 +48,7 @@ returns-then-here-low t c = λ a b f g u w.
 pub returns-else-here-low : goal.returns-else-here-low
 returns-else-here-low t c = λ a b f g u w.
     let v = c.children.ensures.numbered in
-    let p = inner_pair v c.in-Some-children.ensures.children in
+    let p = inner_pair v c.in-Some.ensures.children in
     let h = c.position-here.ensures.position in
     let x = c.if-here-low.false in
     let y = c.if-high-here.false in

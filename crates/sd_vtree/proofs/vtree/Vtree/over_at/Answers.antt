@@ -13,6 +13,6 @@ returns c = λ a b at f g u w.
     let v = c.in_ok-node.ensures.numbered in
     let part = inner_pair v c.in_ok-left.ensures.children in
     lowest_reached c.args.self.now v c.in_ok-node.node _ _ part c.args.low c.args.high c.args.here
-    c.size-else-size-high.result c.size.result (sym c.in_ok-node.ensures.at) c.requires.first c.requires.last
-    c.size-else-size-high.ensures.size c.size.ensures.size (omega (arith, c.if-size-here.false, c.requires.first))
+    c.size.result c.size-else-size-here.result (sym c.in_ok-node.ensures.at) c.requires.first c.requires.last
+    c.size.ensures.size c.size-else-size-here.ensures.size (omega (arith, c.if-size-here.false, c.requires.first))
     (omega (arith, c.if-size-high.false, c.requires.last)) a b at f g u w
