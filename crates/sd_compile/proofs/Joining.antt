@@ -24,7 +24,7 @@ use Rattle.sd_manager.specs.Shown.{ShowsCanonical, IsNodeOf, constant_diagram}
 use Rattle.sd_manager.specs.Literals.{IsLiteralTo}
 use Rattle.sd_manager.specs.Making.{Extends}
 use Rattle.sd_apply.specs.Answers.{HasAnswer, Combines}
-use Rattle.sd_compile.specs.Joined.{joined, neutral, outer, inner, value_of_group, JoinsLiterals}
+use Rattle.sd_compile.specs.Joined.{joined, neutral, outer, inner, value_of_group, JoinsLiterals, ImpliesOdd}
 
 -- all and any are joined
 pub all_joined : {X : Type 0} (p : X → Bool) (xs : List X) → list_all p xs ≡ joined And p xs
@@ -249,6 +249,32 @@ prefix_passed f t new i g root a c at h held joins =
     (p.value s ∙ sym (prefix_joined f i s))
     ∙ front_more f i (record { exclusive = false; literals = g }) at s ∙ prefix_joined f (i + 1) s)
     (joins.each p.diagram p.is)
+
+-- a value that is true only where another one is
+true_beside : (b v : Bool) → (b ≡ true → v ≡ true) → b ≡ (b && v)
+true_beside true v h = sym (h refl)
+true_beside false v h = refl
+
+-- a node that implies an exclusive group of a CNF is that of the prefix with it
+pub prefix_stays : (f : Groups) (t : Table) (i : ℕ) (g : List ℤ) (root a : ℕ) →
+    slice_get f.groups i ≡ Some (record { exclusive = true; literals = g }) → f.kind ≡ Cnf →
+    HoldsFormula t (prefix_of f i) root → get t.roots root ≡ Some a → ImpliesOdd t a g →
+    HasAnswer t (expression_value (prefix_of f (i + 1))) a
+prefix_stays f t i g root a at cnf h held odd =
+    let p = prefix_node (prefix_of f i) t t root a (extends_self t) h held in
+    let group : List Bool → Bool = λ s. joined (inner f.kind true) (literal_holds s) g in
+    let stays : (s : List Bool) → meaning p.diagram s ≡ combine (outer f.kind) (meaning p.diagram s) (group s) = λ s.
+    subst
+    (λ k. meaning p.diagram s ≡ combine (outer k) (meaning p.diagram s) (joined (inner k true) (literal_holds s) g))
+    (sym cnf)
+    (true_beside (meaning p.diagram s) (joined Xor (literal_holds s) g) (odd p.diagram p.is s)) in
+    record {
+      diagram = p.diagram;
+      is = p.is;
+      value = λ s. stays s
+          ∙ ap (λ v. combine (outer f.kind) v (group s)) (p.value s ∙ sym (prefix_joined f i s))
+          ∙ front_more f i (record { exclusive = true; literals = g }) at s ∙ prefix_joined f (i + 1) s;
+    }
 
 -- the value of no groups
 pub prefix_none : (t : Table) (f : Groups) (b : Bool) (c : ℕ) → b ≡ neutral (outer f.kind) →

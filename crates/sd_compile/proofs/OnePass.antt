@@ -1,7 +1,9 @@
 -- A node that is joined with a group in one pass.
-use Rattle.std.proofs.Common.{◌≡◌, ◌≢◌, ℕ, ℤ, Bool, false, List, map, sym, ap, ◌∙◌}
+use Rattle.std.proofs.Common.{◌≡◌, ◌≢◌, ℕ, ℤ, Bool, false, List, map, length, sym, ap, ◌∙◌}
 use Rattle.std.specs.List.{AllByRecursion}
 use Rattle.std.specs.List.Sorted.{IsPermutation}
+use Rattle.std.proofs.lemmas.List.{length-map}
+use Rattle.std.proofs.lemmas.List.Sorted.{length_permutation}
 use Rattle.sd_model.specs.declared.trees.Operation.{Operation}
 use Rattle.sd_model.specs.declared.trees.Operation.TheVariants.{And, Or, Xor}
 use Rattle.sd_model.specs.Assignment.{literal_holds}
@@ -14,7 +16,7 @@ use Rattle.sd_formula.specs.Formulas.{IsLiteral, AreLiterals}
 use Rattle.sd_manager.specs.Table.{Table}
 use Rattle.sd_manager.specs.Literals.{IsLiteralTo}
 use Rattle.sd_apply.specs.Group.{group_value, JoinsGroup}
-use Rattle.sd_compile.specs.Joined.{joined, outer, inner, literal_of_place, JoinsLiterals}
+use Rattle.sd_compile.specs.Joined.{joined, outer, inner, literal_of_place, JoinsLiterals, ImpliesOdd}
 use Rattle.sd_compile.proofs.Joining.{all_joined, any_joined, joined_map, literal_of_tree}
 use Rattle.sd_compile.proofs.Grouping.{joined_permuted}
 
@@ -52,3 +54,15 @@ literals_joined old new kind o a xs placed c is h joins = record {
         ∙ ap (combine (outer kind) (meaning x g)) (group_joined kind g xs placed h);
   };
 }
+
+-- an odd number of literals hold in each order
+pub odd_permuted : (t : Table) (c : ℕ) (xs : List ℤ) (placed : List (ℕ × ℤ)) →
+    IsPermutation xs (map literal_of_place placed) → ImpliesOdd t c (map literal_of_place placed) → ImpliesOdd t c xs
+odd_permuted t c xs placed h odd = λ d shown a holds.
+    joined_permuted Xor (literal_holds a) xs (map literal_of_place placed) h ∙ odd d shown a holds
+
+-- as many literals are placed
+pub as_many_placed : (n : ℕ) (xs : List ℤ) (placed : List (ℕ × ℤ)) → IsPermutation xs (map literal_of_place placed) →
+    length xs ≡ n → length placed ≡ n
+as_many_placed n xs placed h is =
+    sym (length-map placed literal_of_place) ∙ length_permutation xs (map literal_of_place placed) h ∙ is

@@ -1,5 +1,5 @@
 -- Truth values joined by a connective, and the connectives of a formula in groups.
-use Rattle.std.specs.Prelude.{◌≡◌, ℕ, ℤ, Bool, true, false, not, if◌then◌else◌, List, [], ◌∷◌}
+use Rattle.std.specs.Prelude.{◌≡◌, ℕ, ℤ, Bool, true, false, not, if◌then◌else◌, List, [], ◌∷◌, slice_get, Some}
 use Rattle.std.specs.List.{AllByRecursion}
 use Rattle.sd_model.specs.declared.trees.Operation.{Operation}
 use Rattle.sd_model.specs.declared.trees.Operation.TheVariants.{And, Or, Xor}
@@ -12,7 +12,6 @@ use Rattle.sd_formula.specs.declared.formula.Kind.TheVariants.{Cnf, Dnf}
 use Rattle.sd_manager.specs.Table.{Table}
 use Rattle.sd_manager.specs.Shown.{ShowsCanonical}
 use Rattle.sd_apply.specs.Answers.{HasAnswer}
-use Rattle.sd_apply.specs.Group.{group_value}
 
 -- the value of none
 abbrev pub neutral : Operation → Bool
@@ -59,7 +58,17 @@ pub record HasBothAnswers (t : Table) (f : List Bool → Bool) (a b : ℕ) : Typ
   pub one : HasAnswer t f a
   pub other : HasAnswer t (λ assignment. not (f assignment)) b
 
--- a node is false wherever all literals of a clause are
-abbrev pub Implies : Table → ℕ → List (ℕ × ℤ) → Type 0
-Implies t c clause = (d : Diagram) → ShowsCanonical t c d → (assignment : List Bool) →
-    group_value And clause assignment ≡ false → meaning d assignment ≡ false
+-- all literals hold, or none does
+pub record HaveValue (literals : List (ℕ × ℤ)) (holds : Bool) (assignment : List Bool) : Type 0 where
+  pub each : (i : ℕ) (e : ℕ × ℤ) → slice_get literals i ≡ Some e →
+      literal_holds assignment (literal_of_place e) ≡ holds
+
+-- a node is false wherever all literals hold, or wherever none does
+abbrev pub IsFalseBeside : Table → ℕ → List (ℕ × ℤ) → Bool → Type 0
+IsFalseBeside t c literals holds = (d : Diagram) → ShowsCanonical t c d → (assignment : List Bool) →
+    HaveValue literals holds assignment → meaning d assignment ≡ false
+
+-- a node is true only where an odd number of literals hold
+abbrev pub ImpliesOdd : Table → ℕ → List ℤ → Type 0
+ImpliesOdd t c literals = (d : Diagram) → ShowsCanonical t c d → (assignment : List Bool) →
+    meaning d assignment ≡ true → joined Xor (literal_holds assignment) literals ≡ true

@@ -31,7 +31,7 @@ use crate::connectives::{between_groups, connect, neutral_value, within_group};
 use crate::error::{CompileError, compile_error};
 use crate::groups::group_node;
 use crate::limited::{sweep_kept, sweep_past, try_hold};
-use crate::one_pass::{join_literals, suits_one_pass};
+use crate::one_pass::{join_literals, stays_exclusive, suits_one_pass};
 use crate::pace::Pace;
 use sd_cache::Cache;
 use sd_formula::Formula;
@@ -198,7 +198,7 @@ fn next_group(f: &Formula, work: &Compiling) -> u32
 }
 
 // The node of the prefix with one group more: joined in one pass along the node of the prefix, or by a node of its own
-// where it is exclusive, or wide on a vtree where that is dear.
+// where it is exclusive and not found to be implied, or wide on a vtree where that is dear.
 fn next_node(
     alloc: Global,
     m: &mut Manager,
@@ -217,12 +217,18 @@ fn next_node(
     ensures rule { IfErr result (λ e. KeepsRule m.new e) }
     ensures table { IsTable m.new }
 {
+    // its contract tells that the table is valid
+    let _ = m.vtree();
     let index = work.groups as usize;
-    if f.is_exclusive(index) {
-        return next_by_node(alloc, m, c, f, work);
-    }
     let prefix = m.node_of(&work.root);
     let literals = f.group(index);
+    if f.is_exclusive(index) {
+        let stays = stays_exclusive(alloc, m, prefix, literals)?;
+        if stays {
+            return Ok(prefix);
+        }
+        return next_by_node(alloc, m, c, f, work);
+    }
     if !suits_one_pass(m.vtree(), literals) {
         return next_by_node(alloc, m, c, f, work);
     }

@@ -9,17 +9,17 @@ ghost use Rattle.sd_manager.specs.Shown.{IsNodeOf};
 ghost use Rattle.sd_manager.specs.Making.{Extends, KeepsRule};
 ghost use Rattle.sd_apply.specs.Serving.{Serves};
 ghost use Rattle.sd_apply.specs.Group.{JoinsGroup};
-ghost use Rattle.sd_compile.specs.Joined.{outer, JoinsLiterals};
+ghost use Rattle.sd_compile.specs.Joined.{outer, JoinsLiterals, ImpliesOdd};
 
 use crate::connectives::between_groups;
-use crate::implied::implies;
+use crate::implied::{implies, implies_one};
 use sd_apply::{by_leaf, join_group};
 use sd_cache::Cache;
 use sd_formula::Kind;
 use sd_manager::{Manager, NodeId};
 use sd_runs::TakeError;
 use sd_vtree::{VNode, Vtree};
-use std::alloc::Global;
+use std::alloc::{AllocError, Global};
 
 /// A node, joined with the literals of a group. It refuses as `sd_apply::and`.
 pub(crate) fn join_literals(
@@ -69,6 +69,25 @@ fn ends_in_leaf(vtree: &Vtree) -> bool {
         return false;
     };
     vtree.variable(right).is_some()
+}
+
+/// Whether it is found that a node implies that an odd number of literals hold. This is asked of two literals alone,
+/// where it is asked of a clause.
+pub(crate) fn stays_exclusive(
+    alloc: Global,
+    m: &Manager,
+    node: NodeId,
+    literals: &[i32],
+) -> Result<bool, AllocError>
+    requires node { IsNodeOf m.now node }
+    requires literals { AreLiterals (leaves (plain_tree m.now.vtree)) literals.now }
+    ensures { IfOk result (λ r. IsTrue r → ImpliesOdd m.now node literals.now) }
+{
+    if literals.len() != 2 || !ends_in_leaf(m.vtree()) {
+        return Ok(false);
+    }
+    let placed = by_leaf(alloc, m, literals)?;
+    Ok(implies_one(m, node, &placed))
 }
 
 // So many literals are joined in one pass on every vtree.

@@ -32,5 +32,5 @@ is_false_beside-requires-then-not-is_false_beside t c =
 pub returns-clause-implies : goal.returns-clause-implies
 returns-clause-implies t c = λ _.
     pairs_imply c.args.m.now c.requires.table c.args.node c.in-Decomposition.place c.in-Decomposition.count
-    c.loop-index.index c.args.clause.now c.in-Decomposition.ensures.shown c.in-Decomposition.ensures.view
+    c.loop-index.index c.args.literals.now c.args.holds c.in-Decomposition.ensures.shown c.in-Decomposition.ensures.view
     c.loop-index.invariant.0 (omega (arith, c.loop-index-test.false))

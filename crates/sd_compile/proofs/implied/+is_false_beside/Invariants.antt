@@ -8,4 +8,4 @@ decreases-is_false_beside l = l.steps.now
 
 -- of each pair before the sub or the prime is false, and a step was taken
 abbrev pub invariant-loop-index : goal.invariant-loop-index
-invariant-loop-index l = HaveFalse l.m l.node l.index l.clause × (l.steps < l.fn.steps)
+invariant-loop-index l = HaveFalse l.m l.node l.index l.literals l.holds × (l.steps < l.fn.steps)
