@@ -2,11 +2,11 @@
 use Rattle.std.proofs.Common.{◌≡◌, ℕ, Bool, true, false, List, [], ◌∷◌, Option, Some, None, Ok, Err, is_none}
 use Rattle.std.proofs.Common.{refl, ap, subst, sym, ◌∙◌, arith, drop}
 use Rattle.std.specs.Prelude.{codes, ◌==◌, option_map, option_and_then, if◌then◌else◌, is_some, count_by}
-use Rattle.std.specs.Option.{option_map_or}
+use Rattle.std.specs.Option.{option_map_or, option_zip}
 use Rattle.std.specs.List.{after_first, before_first}
 use Rattle.sd_formula.specs.Generated.{IsGenerable}
 use Rattle.sd_words.specs.Command.{accepts, parsed_by}
-use Rattle.sd_words.specs.Numbers.{both, count_and_seed}
+use Rattle.sd_words.specs.Numbers.{count_and_seed}
 use Rattle.sd_words.specs.ParsedOptions.{ParsedOptions, fails, has_bad_number}
 use Rattle.sd_words.specs.JobOf.{job_of, job_of_parsed, input_of, first_some, unless}
 use Rattle.sd_words.specs.Rows.{fault_where, rows, no_input, two_inputs, two_vtrees, number_range}
@@ -28,7 +28,7 @@ IsInRange word = Unit {0}
 -- ---- two numbers
 
 -- both numbers are there
-both_there : (a b : Option ℕ) (p : ℕ × ℕ) → both a b ≡ Some p → (a ≡ Some p.0) × (b ≡ Some p.1)
+both_there : (a b : Option ℕ) (p : ℕ × ℕ) → option_zip a b ≡ Some p → (a ≡ Some p.0) × (b ≡ Some p.1)
 both_there (Some a) (Some b) p is =
     let same : (a, b) ≡ p = cc in (ap (λ (q : ℕ × ℕ). Some q.0) same, ap (λ (q : ℕ × ℕ). Some q.1) same)
 both_there (Some a) None p is = let bad : ⊥ = cc in absurd bad
