@@ -45,7 +45,7 @@ constant_node : (t : Table) (at : ℕ) (b : Bool) → IsNodeUnder t at (cond b 1
 constant_node t at true = record { shows = refl; under = top_under t.vtree at }
 constant_node t at false = record { shows = refl; under = bottom_under t.vtree at }
 
-constant_value : (b : Bool) (g : List Bool) → meaning (constant_diagram b) g ≡ b
+pub constant_value : (b : Bool) (g : List Bool) → meaning (constant_diagram b) g ≡ b
 constant_value true g = refl
 constant_value false g = refl
 

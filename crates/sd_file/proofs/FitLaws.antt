@@ -183,7 +183,7 @@ after_fits v (line ∷ lines) earlier all are h =
 -- ---- the node of a number
 
 -- what fits at each number does at one
-fit_at : (v index : ℕ) (es : List Entry) (i : ℕ) → FitFrom v index es → i < length es
+pub fit_at : (v index : ℕ) (es : List Entry) (i : ℕ) → FitFrom v index es → i < length es
     → FitsAt v (index + i) (slice_index_or es i no_entry).node
 fit_at v index [] i fit below = absurd (omega arith)
 fit_at v index (e ∷ es) zero fit below = subst (λ n. FitsAt v n e.node) (omega arith) fit.0

@@ -70,7 +70,7 @@ pairs_node t c n k at e =
     rw second (ap list (ap (key_at t) number ∙ e))
 
 -- the literal that a literal's code stands for
-literal_back : (x : ℕ) (s : Bool) → literal_at (literal_code x s) ≡ literal_of x s
+pub literal_back : (x : ℕ) (s : Bool) → literal_at (literal_code x s) ≡ literal_of x s
 literal_back x true =
     let half : 2 * x / 2 ≡ x = omega arith in
     let rest : 2 * x % 2 ≡ 0 = omega arith in

@@ -109,7 +109,7 @@ round_determined {fs} {slack} {start} {a} {b} {way} valid (round_at_node {u} {v}
     round_determined (round_valid next p) q (subst (λ x. IsRound fs slack x (way ++ Right ∷ []) b) (sym left) q')
 
 -- a search says the size at its start
-search_before : {fs : List Expression} {slack rounds : ℕ} {start : Tree} {found : Found} →
+pub search_before : {fs : List Expression} {slack rounds : ℕ} {start : Tree} {found : Found} →
     IsSearch fs slack rounds start found → HasSize fs start found.before
 search_before (no_round size) = size
 search_before (last_round size round after no_less) = size

@@ -70,7 +70,7 @@ flat_closed ds d m x w =
 -- the diagrams of the held roots
 
 -- codes of nodes show diagrams
-shown_all : (t : Table) (cs : List ℕ) → ((c : ℕ) → IsAmong c cs → IsNodeOf t c) →
+pub shown_all : (t : Table) (cs : List ℕ) → ((c : ℕ) → IsAmong c cs → IsNodeOf t c) →
     (ds : List Diagram) × AllZip (ShowsCanonical t) cs ds
 shown_all t [] h = ([], tt)
 shown_all t (c ∷ cs) h =
