@@ -53,6 +53,7 @@ mod listing;
 mod lists;
 mod nodes;
 mod record;
+mod room;
 mod stack;
 mod states;
 mod sweeping;

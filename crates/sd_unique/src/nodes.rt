@@ -8,6 +8,7 @@ use crate::hash::{bucket_at, hash};
 use crate::listing::{detached_among, keyed_among, linked_among, list_all};
 use crate::lists::{at_place, push_links, put_first};
 use crate::record::{Links, NO_RECORD, Record, RecordState};
+use crate::room::make_room;
 use crate::stack::Candidates;
 use crate::states::{attach, detach, free, release};
 use crate::sweeping::retire_twos;
@@ -308,20 +309,19 @@ impl Nodes {
         ensures err { OnErr result (self.new ≡ self.old) }
         ensures full { IfErr result (λ e. IsRefusal self.old (length list.now) e) }
     {
-        self.records.reserve(1)?;
-        self.hashes.reserve(1)?;
-        // room for the links of all records, since `list_places` takes no memory
-        let links = (self.records.len() + 1).saturating_sub(self.links.len());
-        self.links.reserve(links)?;
-        self.candidates.reserve()?;
+        make_room(
+            &mut self.records,
+            &mut self.hashes,
+            &mut self.links,
+            &mut self.candidates,
+        )?;
         let start = self.runs.take(list)?;
         let run = (start, list.len() as u32);
         let number = self.records.len() as u32;
         self.newest = number;
         let head = bucket_at(hash, self.heads.len() - 1) + 1;
-        let _ = self
-            .records
-            .push(Record::linked(place, run, self.heads[head]));
+        self.records
+            .push_reserved(Record::linked(place, run, self.heads[head]));
         self.hashes.push_reserved(hash);
         push_links(&mut self.links, &self.places);
         self.candidates.add();

@@ -1,5 +1,5 @@
 use Rattle.std.proofs.Common.{◌≡◌, ◌-◌, ◌<◌, ◌≤◌, ◌⊎◌, ℕ, suc, get_or, length, Some}
-use Rattle.std.proofs.Common.{sym, ap, subst, ◌∙◌, arith}
+use Rattle.std.proofs.Common.{refl, sym, ap, subst, ◌∙◌, arith}
 use Rattle.std.proofs.Math.ListN.{set}
 use Rattle.std.proofs.lemmas.List.{length-set}
 use Rattle.sd_unique.specs.Chains.{bucket_of, chain_by, no_record}
@@ -7,6 +7,7 @@ use Rattle.sd_unique.specs.Record.{key_of}
 use Rattle.sd_unique.specs.Rechaining.{IsRechained}
 use Rattle.sd_unique.specs.declared.record.Record.{Record}
 use Rattle.sd_unique.specs.declared.record.RecordState.TheVariants.{Free}
+use Rattle.sd_unique.proofs.Cutting.{next_kept}
 use Rattle.sd_unique.proofs.Entries.{slice_get_at}
 use Rattle.sd_unique.proofs.Rechaining.{one_down, rechained_next}
 use Rattle.sd_unique.proofs.Reading.{get_or_any}
@@ -19,6 +20,12 @@ blank = record { place = 0; start = 0; length = 0; next = 0; uses = 0; mark = 0;
 
 pub bounds-hashes-number : goal.bounds-hashes-number
 bounds-hashes-number c = omega (arith, c.requires.inside, c.requires.hashed.size)
+
+pub returns-clause-kept : goal.returns-clause-kept
+returns-clause-kept c =
+    let r : Record = get_or c.args.records.now c.args.number blank in
+    next_kept c.args.records.now c.args.number r _ (slice_get_at c.args.records.now c.args.number blank
+    c.requires.inside) refl refl refl refl refl refl
 
 pub returns-clause-chained : goal.returns-clause-chained
 returns-clause-chained c =

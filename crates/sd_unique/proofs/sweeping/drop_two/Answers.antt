@@ -1,5 +1,21 @@
 use Rattle.sd_unique.proofs.sweeping.drop_two.Goals as goal
 
+pub drop_code-requires-clause-kept : goal.drop_code-requires-clause-kept
+drop_code-requires-clause-kept c = c.requires.kept
+
+pub drop_code-requires-2-clause-kept : goal.drop_code-requires-2-clause-kept
+drop_code-requires-2-clause-kept c =
+    let k = c.requires.kept in (k.0, k.1, k.2, c.drop_code.ensures.kept k.0 k.1 k.2 k.3)
+
+pub drop_code-requires-3-clause-kept : goal.drop_code-requires-3-clause-kept
+drop_code-requires-3-clause-kept c =
+    let k = c.requires.kept in (
+      k.0,
+      k.1,
+      k.2,
+      c.drop_code-2.ensures.kept k.0 k.1 k.2 (c.drop_code.ensures.kept k.0 k.1 k.2 k.3),
+    )
+
 pub drop_code-requires-4-clause-kept : goal.drop_code-requires-4-clause-kept
 drop_code-requires-4-clause-kept c =
     let k = c.requires.kept in (

@@ -33,6 +33,32 @@ free-requires-clause-linked c =
     let top = c.in-Some.ensures.some in
     (idle_some l.runs l.records c.in-Some.node top.0 top.1 top.2).linked
 
+pub free-requires-clause-kept : goal.free-requires-clause-kept
+free-requires-clause-kept c =
+    let l = c.loop-count in (
+      c.pop_used.new.self.0,
+      kept_queued l.runs l.records l.links l.heads l.places l.candidates.0 c.pop_used.new.self.0
+          c.pop_used.ensures.size c.pop_used.ensures.others l.invariant.0,
+    )
+
+pub returns-in_default-clause-kept : goal.returns-in_default-clause-kept
+returns-in_default-clause-kept c =
+    let l = c.loop-count in
+    kept_queued l.runs l.records l.links l.heads l.places l.candidates.0 c.pop_used.new.self.0 c.pop_used.ensures.size
+    c.pop_used.ensures.others l.invariant.0
+
+pub returns-in_default-get-clause-kept : goal.returns-in_default-get-clause-kept
+returns-in_default-get-clause-kept c =
+    let l = c.loop-count in
+    kept_queued l.runs l.records l.links l.heads l.places l.candidates.0 c.pop_used.new.self.0 c.pop_used.ensures.size
+    c.pop_used.ensures.others l.invariant.0
+
+pub returns-in_default-get-2-clause-kept : goal.returns-in_default-get-2-clause-kept
+returns-in_default-get-2-clause-kept c =
+    let l = c.loop-count in
+    kept_queued l.runs l.records l.links l.heads l.places l.candidates.0 c.pop_used.new.self.0 c.pop_used.ensures.size
+    c.pop_used.ensures.others l.invariant.0
+
 pub drop_two-requires-clause-used : goal.drop_two-requires-clause-used
 drop_two-requires-clause-used c =
     let l = c.loop-count in

@@ -1,6 +1,5 @@
 use Rattle.std.proofs.Common.{◌≡◌, ◌+◌, ◌<◌, bit_and, false, [], ◌∷◌, ◌++◌, length, refl, sym, ap, subst, ◌∙◌, arith}
 use Rattle.std.proofs.lemmas.List.{nil_from_length}
-use Rattle.sd_runs.proofs.Places.{pushed}
 use Rattle.sd_unique.specs.Candidates.{Waits}
 use Rattle.sd_unique.specs.Chains.{bucket_of, list_under, no_links, no_record, AreHashed}
 use Rattle.sd_unique.specs.Inserting.{IsFull, IsRefusal}
@@ -12,31 +11,19 @@ use Rattle.sd_unique.proofs.Numbered.{is_nodes}
 use Rattle.sd_unique.proofs.Occupied.{kept_fields}
 use Rattle.sd_unique.proofs.Reading.{whole_slice}
 use Rattle.sd_unique.proofs.Taken.{refusal_is, refused_by}
+use Rattle.sd_unique.proofs.Whole.{kept_roomier}
 use Rattle.sd_unique.specs.Nodes.{IsNodes}
 use Rattle.sd_unique.proofs.Hashes.{hashed_pushed}
 use Rattle.sd_unique.proofs.nodes.Nodes.add_record.Goals as goal
 
-pub returns-in_err-reserve-clause-nodes : goal.returns-in_err-reserve-clause-nodes
-returns-in_err-reserve-clause-nodes c =
-    is_nodes (subst (AreRecordsStored c.self.inside.runs) (sym c.in_err-reserve.ensures.items)
-    c.self.invariant.0.stored)
-
-pub returns-in_err-reserve-2-clause-nodes : goal.returns-in_err-reserve-2-clause-nodes
-returns-in_err-reserve-2-clause-nodes c =
-    is_nodes (subst (AreRecordsStored c.self.inside.runs) (sym c.in_ok-reserve.ensures.items) c.self.invariant.0.stored)
-
-pub returns-in_err-reserve-3-clause-nodes : goal.returns-in_err-reserve-3-clause-nodes
-returns-in_err-reserve-3-clause-nodes c =
-    is_nodes (subst (AreRecordsStored c.self.inside.runs) (sym c.in_ok-reserve.ensures.items) c.self.invariant.0.stored)
-
-pub returns-in_err-reserve-4-clause-nodes : goal.returns-in_err-reserve-4-clause-nodes
-returns-in_err-reserve-4-clause-nodes c =
-    is_nodes (subst (AreRecordsStored c.self.inside.runs) (sym c.in_ok-reserve.ensures.items)
+pub returns-in_err-make_room-clause-nodes : goal.returns-in_err-make_room-clause-nodes
+returns-in_err-make_room-clause-nodes c =
+    is_nodes (subst (AreRecordsStored c.self.inside.runs) (sym c.in_err-make_room.ensures.records)
     c.self.invariant.0.stored)
 
 pub returns-in_err-start-clause-nodes : goal.returns-in_err-start-clause-nodes
 returns-in_err-start-clause-nodes c =
-    is_nodes (subst (AreRecordsStored c.take.new.self) (sym c.in_ok-reserve.ensures.items)
+    is_nodes (subst (AreRecordsStored c.take.new.self) (sym c.in_ok-make_room.ensures.records)
     (subst (λ a. AreRecordsStored a c.self.inside.records.items) (sym c.in_err-start.ensures.err)
     c.self.invariant.0.stored))
 
@@ -48,12 +35,32 @@ returns-in_err-start-clause-full c =
     refused_by c.from_residual-in_err-start.result c.in_err-start.field-0.0
     (λ e. IsRefusal c.args.self.now (length c.args.list.now) e) c.from_residual-in_err-start.ensures.1 refused
 
+pub invariant_of-self : goal.invariant_of-self
+invariant_of-self c =
+    let e = c.in_err-make_room.ensures in
+    let s = c.self.inside in
+    let n = c.make_room.new in
+    kept_roomier s.runs s.runs s.records.items n.records.items s.hashes.items n.hashes.items s.links.items n.links.items
+    s.heads.items s.places.items s.candidates.0 n.candidates.0 s.records.len n.records.len s.links.cap n.links.cap
+    s.places.cap refl e.records e.hashes e.links e.candidates (omega (arith, ap length e.records)) e.capacity
+    c.self.invariant.0 c.self.invariant.1 c.self.invariant.2
+
+pub invariant_of-self-in_err-start : goal.invariant_of-self-in_err-start
+invariant_of-self-in_err-start c =
+    let e = c.in_ok-make_room.ensures in
+    let s = c.self.inside in
+    let n = c.make_room.new in
+    kept_roomier s.runs c.take.new.self s.records.items n.records.items s.hashes.items n.hashes.items s.links.items
+    n.links.items s.heads.items s.places.items s.candidates.0 n.candidates.0 s.records.len n.records.len s.links.cap
+    n.links.cap s.places.cap c.in_err-start.ensures.err e.records e.hashes e.links e.candidates
+    (omega (arith, ap length e.records)) e.capacity c.self.invariant.0 c.self.invariant.1 c.self.invariant.2
+
 pub put_first-requires-clause-listed : goal.put_first-requires-clause-listed
 put_first-requires-clause-listed c =
     let linked : 0 < length c.self.inside.places.items
     → c.push_links.new.links.items ≡ c.self.inside.links.items ++ no_links ∷ [] =
     λ some. c.push_links.ensures.pushed (omega (arith, some, ap length c.deref.ensures.value))
-    ∙ ap (λ l. l ++ no_links ∷ []) c.in_ok-reserve-3.ensures.items in
+    ∙ ap (λ l. l ++ no_links ∷ []) c.in_ok-make_room.ensures.links in
     appended_ready c.self.inside.runs c.take.new.self c.self.inside.records.items c.self.inside.links.items
     c.self.inside.heads.items c.self.inside.places.items c.self.inside.candidates.0 c.self.invariant.0
     c.take.ensures.arena c.args.list.now c.in_ok-start.start c.in_ok-start.ensures.ok c.in_ok-start.ensures.start
@@ -61,7 +68,7 @@ put_first-requires-clause-listed c =
     no_record (none_waits c.self.inside.runs c.self.inside.records.items c.self.inside.links.items
     c.self.inside.heads.items c.self.inside.places.items c.self.inside.candidates.0 c.self.invariant.0 c.args.self.now
     c.self.view_is c.requires.all) refl c.requires.at_least_one c.len-number.result
-    (omega (arith, ap length c.in_ok-reserve.ensures.items))
+    (omega (arith, ap length c.in_ok-make_room.ensures.records))
     c.deref_mut.result.now c.deref_mut-2.result.now (λ some. c.deref_mut.ensures.value ∙ linked some)
     c.deref_mut-2.ensures.value
 
@@ -74,13 +81,12 @@ returns-clause-number c =
     no_record (none_waits c.self.inside.runs c.self.inside.records.items c.self.inside.links.items
     c.self.inside.heads.items c.self.inside.places.items c.self.inside.candidates.0 c.self.invariant.0 c.args.self.now
     c.self.view_is c.requires.all) refl c.requires.at_least_one c.len-number.result
-    (omega (arith, ap length c.in_ok-reserve.ensures.items))
+    (omega (arith, ap length c.in_ok-make_room.ensures.records))
 
 pub returns-clause-ok : goal.returns-clause-ok
 returns-clause-ok c =
-    let grown = pushed c.push.result _ _ _ (c.push.ensures.succeeds (omega (arith, c.in_ok-reserve.ensures.ok)))
-    c.push.ensures.items
-    ∙ ap (λ l. l ++ c.linked.result ∷ []) c.in_ok-reserve.ensures.items
+    let grown = c.push_reserved.ensures.items
+    ∙ ap (λ l. l ++ c.linked.result ∷ []) c.in_ok-make_room.ensures.records
     ∙ ap (λ r. c.self.inside.records.items ++ r ∷ []) c.linked.ensures in
     appended_nodes c.self.inside.runs c.take.new.self c.self.inside.records.items c.self.inside.links.items
     c.self.inside.heads.items c.self.inside.places.items c.self.inside.candidates.0 c.self.invariant.0
@@ -89,27 +95,26 @@ returns-clause-ok c =
     no_record (none_waits c.self.inside.runs c.self.inside.records.items c.self.inside.links.items
     c.self.inside.heads.items c.self.inside.places.items c.self.inside.candidates.0 c.self.invariant.0 c.args.self.now
     c.self.view_is c.requires.all) refl c.requires.at_least_one c.len-number.result
-    (omega (arith, ap length c.in_ok-reserve.ensures.items))
-    c.args.hash c.args.place c.index.result.now c.requires.hash c.requires.absent c.push.new.self.items grown
+    (omega (arith, ap length c.in_ok-make_room.ensures.records))
+    c.args.hash c.args.place c.index.result.now c.requires.hash c.requires.absent c.push_reserved.new.self.items grown
 
 pub invariant_of-self-2 : goal.invariant_of-self-2
 invariant_of-self-2 c = (
-  let grown = pushed c.push.result _ _ _ (c.push.ensures.succeeds (omega (arith, c.in_ok-reserve.ensures.ok)))
-      c.push.ensures.items
-      ∙ ap (λ l. l ++ c.linked.result ∷ []) c.in_ok-reserve.ensures.items
+  let grown = c.push_reserved.ensures.items
+      ∙ ap (λ l. l ++ c.linked.result ∷ []) c.in_ok-make_room.ensures.records
       ∙ ap (λ r. c.self.inside.records.items ++ r ∷ []) c.linked.ensures in
       let linked : 0 < length c.self.inside.places.items
       → c.push_links.new.links.items ≡ c.self.inside.links.items ++ no_links ∷ [] =
       λ some. c.push_links.ensures.pushed (omega (arith, some, ap length c.deref.ensures.value))
-      ∙ ap (λ l. l ++ no_links ∷ []) c.in_ok-reserve-3.ensures.items in
+      ∙ ap (λ l. l ++ no_links ∷ []) c.in_ok-make_room.ensures.links in
       let places = whole_slice c.put_first.new.places c.self.inside.places.items c.self.inside.places.len
       (c.put_first.auto.places ∙ c.deref_mut-2.ensures.len) in
       let links = whole_slice c.put_first.new.links c.push_links.new.links.items c.push_links.new.links.len
       (c.put_first.auto.links ∙ c.deref_mut.ensures.len) in
       let flags : c.add.new.self.0 ≡ c.self.inside.candidates.0 ++ false ∷ [] =
-      c.add.ensures ∙ ap (λ f. f ++ false ∷ []) c.in_ok-reserve-4.ensures.same in
+      c.add.ensures ∙ ap (λ f. f ++ false ∷ []) c.in_ok-make_room.ensures.candidates in
       kept_fields c.take.new.self _ c.put_first.new.links _ _ c.put_first.new.places _
-      c.push-2.new.self.0 links places
+      c.push.new.self.0 links places
       (appended_kept c.self.inside.runs c.take.new.self c.self.inside.records.items c.self.inside.links.items
       c.self.inside.heads.items c.self.inside.places.items c.self.inside.candidates.0 c.self.invariant.0
       c.take.ensures.arena c.args.list.now c.in_ok-start.start c.in_ok-start.ensures.ok c.in_ok-start.ensures.start
@@ -117,13 +122,13 @@ invariant_of-self-2 c = (
       no_record (none_waits c.self.inside.runs c.self.inside.records.items c.self.inside.links.items
       c.self.inside.heads.items c.self.inside.places.items c.self.inside.candidates.0 c.self.invariant.0 c.args.self.now
       c.self.view_is c.requires.all) refl c.requires.at_least_one c.len-number.result
-      (omega (arith, ap length c.in_ok-reserve.ensures.items))
-      c.args.hash c.args.place c.index.result.now c.requires.hash c.requires.absent c.push.new.self.items grown
+      (omega (arith, ap length c.in_ok-make_room.ensures.records))
+      c.args.hash c.args.place c.index.result.now c.requires.hash c.requires.absent c.push_reserved.new.self.items grown
       c.bucket_at-head.result (c.bucket_at-head.result + 1)
       (c.bucket_at-head.ensures.is (c.args.place, c.args.list.now) c.requires.hash
       ∙ ap (bucket_of (c.args.place, c.args.list.now)) (omega arith))
       (omega (arith, c.bucket_at-head.ensures.inside)) (omega arith) c.index.ensures
-      c.put_first.new.links c.put_first.new.places c.push-2.new.self.0
+      c.put_first.new.links c.put_first.new.places c.push.new.self.0
       (bit_and c.args.place 2047 + 1) (omega arith)
       (c.put_first.ensures (list_under (c.self.inside.records.items ++ blank ∷ []))
       (appended_unlisted c.self.inside.runs c.take.new.self c.self.inside.records.items c.self.inside.links.items
@@ -133,7 +138,7 @@ invariant_of-self-2 c = (
       no_record (none_waits c.self.inside.runs c.self.inside.records.items c.self.inside.links.items
       c.self.inside.heads.items c.self.inside.places.items c.self.inside.candidates.0 c.self.invariant.0 c.args.self.now
       c.self.view_is c.requires.all) refl c.requires.at_least_one c.len-number.result
-      (omega (arith, ap length c.in_ok-reserve.ensures.items)))
+      (omega (arith, ap length c.in_ok-make_room.ensures.records)))
       (appended_lists c.self.inside.runs c.take.new.self c.self.inside.records.items c.self.inside.links.items
       c.self.inside.heads.items c.self.inside.places.items c.self.inside.candidates.0 c.self.invariant.0
       c.take.ensures.arena c.args.list.now c.in_ok-start.start c.in_ok-start.ensures.ok c.in_ok-start.ensures.start
@@ -141,24 +146,24 @@ invariant_of-self-2 c = (
       no_record (none_waits c.self.inside.runs c.self.inside.records.items c.self.inside.links.items
       c.self.inside.heads.items c.self.inside.places.items c.self.inside.candidates.0 c.self.invariant.0 c.args.self.now
       c.self.view_is c.requires.all) refl c.requires.at_least_one c.len-number.result
-      (omega (arith, ap length c.in_ok-reserve.ensures.items))
+      (omega (arith, ap length c.in_ok-make_room.ensures.records))
       c.deref_mut.result.now c.deref_mut-2.result.now (λ some. c.deref_mut.ensures.value ∙ linked some)
       c.deref_mut-2.ensures.value))
       (λ some. c.put_first.auto.links ∙ ap length (c.deref_mut.ensures.value
       ∙ linked (omega (arith, some, c.put_first.auto.places, ap length c.deref_mut-2.ensures.value))))
       (c.put_first.auto.places ∙ ap length c.deref_mut-2.ensures.value)
-      (c.push-2.ensures.size ∙ ap length flags)
-      (λ m on. c.push-2.ensures.others m (subst (λ f. Waits f m) (sym flags) on)) c.push-2.ensures.here),
+      (c.push.ensures.size ∙ ap length flags)
+      (λ m on. c.push.ensures.others m (subst (λ f. Waits f m) (sym flags) on)) c.push.ensures.here),
   let is = returns-clause-ok c in
       let number : c.len-number.result ≡ c.args.self.now.records = omega (
         arith,
-        ap length c.in_ok-reserve.ensures.items,
+        ap length c.in_ok-make_room.ensures.records,
         ap (λ a. a.records) c.self.view_is,
       ) in
-      let pushed_hash : c.push_reserved.new.self.items ≡ c.self.inside.hashes.items ++ c.args.hash ∷ [] =
-      c.push_reserved.ensures.items ∙ ap (λ l. l ++ c.args.hash ∷ []) c.in_ok-reserve-2.ensures.items in
-      subst (λ h. AreHashed h (nodes_of c.take.new.self c.push.new.self.items)) (sym pushed_hash)
-      (hashed_pushed c.self.inside.hashes.items c.args.self.now (nodes_of c.take.new.self c.push.new.self.items)
+      let pushed_hash : c.push_reserved-2.new.self.items ≡ c.self.inside.hashes.items ++ c.args.hash ∷ [] =
+      c.push_reserved-2.ensures.items ∙ ap (λ l. l ++ c.args.hash ∷ []) c.in_ok-make_room.ensures.hashes in
+      subst (λ h. AreHashed h (nodes_of c.take.new.self c.push_reserved.new.self.items)) (sym pushed_hash)
+      (hashed_pushed c.self.inside.hashes.items c.args.self.now (nodes_of c.take.new.self c.push_reserved.new.self.items)
       c.len-number.result c.args.hash
       (c.args.place, c.args.list.now) number c.requires.hash (ap (λ a. a.linked) is)
       (ap (λ a. a.records) is ∙ omega (arith, number))
@@ -167,9 +172,8 @@ invariant_of-self-2 c = (
   record {
     links_fit = omega (
       arith,
-      c.push.ensures.upper_bound,
-      c.in_ok-reserve.ensures.len,
-      c.in_ok-reserve-3.ensures.ok,
+      c.push_reserved.ensures.len,
+      c.in_ok-make_room.ensures.room.2,
       c.push_links.ensures.capacity,
     );
     heads_fit = c.self.invariant.2.heads_fit;

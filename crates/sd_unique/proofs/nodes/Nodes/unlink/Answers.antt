@@ -6,6 +6,15 @@ use Rattle.sd_unique.proofs.Whole.{kept_as, kept_whole}
 use Rattle.sd_unique.proofs.Hashes.{hashed_whole}
 use Rattle.sd_unique.proofs.nodes.Nodes.unlink.Goals as goal
 
+pub detach-requires-clause-kept : goal.detach-requires-clause-kept
+detach-requires-clause-kept c = (
+  c.self.inside.candidates.0,
+  kept_as c.self.inside.runs c.self.inside.records.items c.deref_mut.result.now c.self.inside.links.items
+      c.deref_mut-2.result.now c.self.inside.heads.items c.deref_mut-3.result.now c.self.inside.places.items
+      c.deref_mut-4.result.now c.self.inside.candidates.0 c.deref_mut.ensures.value c.deref_mut-2.ensures.value
+      c.deref_mut-3.ensures.value c.deref_mut-4.ensures.value c.self.invariant.0,
+)
+
 pub invariant_of-self : goal.invariant_of-self
 invariant_of-self c = (
   kept_whole c.self.inside.runs c.detach.new.records c.self.inside.records.items c.detach.new.links
