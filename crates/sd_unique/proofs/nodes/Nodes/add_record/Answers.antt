@@ -1,5 +1,5 @@
 use Rattle.std.proofs.Common.{◌≡◌, ◌+◌, ◌<◌, bit_and, false, [], ◌∷◌, ◌++◌, length, refl, sym, ap, subst, ◌∙◌, arith}
-use Rattle.std.proofs.lemmas.List.{nil_from_length}
+use Rattle.std.proofs.lemmas.List.{length_push, nil_from_length}
 use Rattle.sd_unique.specs.Candidates.{Waits}
 use Rattle.sd_unique.specs.Chains.{bucket_of, list_under, no_links, no_record, AreHashed}
 use Rattle.sd_unique.specs.Inserting.{IsFull, IsRefusal}
@@ -54,6 +54,32 @@ invariant_of-self-in_err-start c =
     n.links.items s.heads.items s.places.items s.candidates.0 n.candidates.0 s.records.len n.records.len s.links.cap
     n.links.cap s.places.cap c.in_err-start.ensures.err e.records e.hashes e.links e.candidates
     (omega (arith, ap length e.records)) e.capacity c.self.invariant.0 c.self.invariant.1 c.self.invariant.2
+
+pub put_first-requires-clause-inside : goal.put_first-requires-clause-inside
+put_first-requires-clause-inside c = λ some.
+    let any : 0 < length c.self.inside.places.items = omega (arith, some, ap length c.deref_mut-2.ensures.value) in
+    let links : c.deref_mut.result.now ≡ c.self.inside.links.items ++ no_links ∷ [] =
+    c.deref_mut.ensures.value
+    ∙ c.push_links.ensures.pushed (omega (arith, any, ap length c.deref.ensures.value))
+    ∙ ap (λ l. l ++ no_links ∷ []) c.in_ok-make_room.ensures.links in
+    omega (
+      arith,
+      ap length links,
+      length_push c.self.inside.links.items no_links,
+      c.self.invariant.0.linked_all any,
+      ap length c.in_ok-make_room.ensures.records,
+    )
+
+pub put_first-requires-clause-at_least_one : goal.put_first-requires-clause-at_least_one
+put_first-requires-clause-at_least_one c = λ last.
+    omega (
+      arith,
+      last,
+      ap length c.in_ok-make_room.ensures.records,
+      c.self.invariant.0.stored.within_limit,
+      c.self.invariant.0.stored.well.bounded,
+      c.self.invariant.0.stored.bound_fits,
+    )
 
 pub put_first-requires-clause-listed : goal.put_first-requires-clause-listed
 put_first-requires-clause-listed c =
