@@ -1,8 +1,7 @@
 -- A detached record gets another place or another run.
 use Rattle.std.proofs.Common.{◌≡◌, ◌-◌, bit_and, Bool, ℕ, zero, suc, ◌<◌, List, [], ◌∷◌, length, get_or}
-use Rattle.std.proofs.Common.{slice_get, Some, unwrap_or, refl, sym, ap, subst, ◌∙◌, arith}
+use Rattle.std.proofs.Common.{slice_get, Some, unwrap_or, refl, sym, ap, subst, ◌∙◌}
 use Rattle.std.proofs.Math.ListN.{set}
-use Rattle.std.proofs.Math.Seq.{map-set_same}
 use Rattle.std.proofs.lemmas.List.{length-set}
 use Rattle.std.specs.FinMap.{get, insert, remove}
 use Rattle.sd_runs.specs.Arena.{Arena, live_length}
@@ -11,22 +10,21 @@ use Rattle.sd_runs.proofs.Places.{by_cases}
 use Rattle.sd_unique.specs.declared.record.Record.{Record}
 use Rattle.sd_unique.specs.declared.record.Links.{Links}
 use Rattle.sd_unique.specs.declared.record.RecordState.{RecordState}
-use Rattle.sd_unique.specs.declared.record.RecordState.TheVariants.{Free, Linked, Detached}
+use Rattle.sd_unique.specs.declared.record.RecordState.TheVariants.{Free, Detached}
 use Rattle.sd_unique.specs.Relinking.{with_key, exchanged}
 use Rattle.sd_unique.specs.Record.{if_linked, if_detached, if_node, IsNode, without_run, key_of, linked_key}
 use Rattle.sd_unique.specs.Record.{detached_key, uses_of_record, mark_of_record, loose_of, counts_of}
 use Rattle.sd_unique.specs.Record.{nodes_of, AreRecordsStored}
-use Rattle.sd_unique.specs.Chains.{next_of, chain_in, list_by, under_by, list_under}
+use Rattle.sd_unique.specs.Chains.{chain_in, list_by, under_by, list_under}
 use Rattle.sd_unique.specs.Chains.{bucket_of, no_record, HoldsNodes}
-use Rattle.sd_unique.proofs.Changed.{set_which, read_same, stored_set}
+use Rattle.sd_unique.proofs.Changed.{links_kept, set_which, read_same, stored_set}
+use Rattle.sd_unique.proofs.Entries.{slice_get_set}
 use Rattle.sd_unique.proofs.Filed.{filed_same, both_same}
 use Rattle.sd_unique.proofs.FirstChain.{detached_in}
 use Rattle.sd_unique.proofs.Loose.{Map, removes, insert_removed, loose_same, loose_split, loose_there}
 use Rattle.sd_unique.proofs.Loose.{loose_untaken, loose_live}
+use Rattle.sd_unique.proofs.Moved.{not_both}
 use Rattle.sd_unique.proofs.Picked.{picked_set, picked_same}
-
-not_linked : (s : RecordState) → s ≡ Detached → s ≡ Linked → ⊥
-not_linked s d l = let e : Detached ≡ Linked = sym d ∙ l in cc
 
 pub detached_node : (s : RecordState) → s ≡ Detached → IsNode s
 detached_node s e = subst IsNode (sym e) tt
@@ -35,11 +33,6 @@ pub set_twice : {X : Type 0} (xs : List X) (n : ℕ) (x y : X) → set (set xs n
 set_twice [] n x y = refl
 set_twice (z ∷ xs) zero x y = refl
 set_twice (z ∷ xs) (suc n) x y = ap (λ l. z ∷ l) (set_twice xs n x y)
-
-pub slice_set_same : {X : Type 0} (xs : List X) (n : ℕ) (v : X) → n < length xs → slice_get (set xs n v) n ≡ Some v
-slice_set_same [] n v h = absurd (omega arith)
-slice_set_same (x ∷ xs) zero v h = refl
-slice_set_same (x ∷ xs) (suc n) v h = slice_set_same xs n v (omega arith)
 
 -- the record, free
 abbrev pub freed : Record → Record
@@ -71,7 +64,7 @@ pub loose_exchanged : (live : Map) (rs : List Record) (n : ℕ) (r t : Record) (
     → get (loose_of live (set rs n (freed r))) r.start ≡ Some l
     → loose_of live (set rs n t) ≡ insert (remove (loose_of live rs) t.start) r.start l
 loose_exchanged live rs n r t l inside there node new differ had =
-    loose_split live (set rs n t) n t (freed r) (slice_set_same rs n t inside) new refl
+    loose_split live (set rs n t) n t (freed r) (slice_get_set rs n t inside) new refl
     ∙ ap (λ ts. remove (loose_of live ts) t.start) (set_twice rs n t (freed r))
     ∙ sym (insert_removed (remove (loose_of live (set rs n (freed r))) t.start) r.start l
     (get_remove_other (loose_of live (set rs n (freed r))) t.start r.start differ ∙ had))
@@ -94,16 +87,12 @@ module _ (arena : Arena) (rs : List Record) (n : ℕ) (r t : Record) (there : sl
       read_same rs n r t there (λ (x : Record). list_by x.state (bit_and x.place 2047))
       (ap (λ s. list_by s (bit_and t.place 2047)) is ∙ sym (ap (λ s. list_by s (bit_and r.place 2047)) was)) i
 
-  links_kept : t.next ≡ r.next → r ≡ get_or rs n r → (i : ℕ) → next_of (set rs n t) i ≡ next_of rs i
-  links_kept next read i =
-      ap (λ l. get_or l i 0) (map-set_same (λ (x : Record). x.next) rs n t r (next ∙ ap (λ (x : Record). x.next) read))
-
   pub stored_detached : live_length arena t.start ≡ Some t.length
       → ((i : ℕ) (x : Record) → ¬ (i ≡ n) → slice_get rs i ≡ Some x → IsNode x.state → ¬ (x.start ≡ t.start))
       → AreRecordsStored arena rs → AreRecordsStored arena (set rs n t)
   stored_detached live apart st =
       stored_set arena rs n r t there (λ node. live) (λ i x ne e nx nt. apart i x ne e nx)
-      (λ i x ne e nx nt same. not_linked t.state is nt) st
+      (λ i x ne e nx nt same. not_both t.state is nt) st
 
   pub kept_detached : {chained : Bool} (links : List Links) (heads places : List ℕ) (flags : List Bool)
       → t.next ≡ r.next → r ≡ get_or rs n r → AreRecordsStored arena (set rs n t)
@@ -116,12 +105,12 @@ module _ (arena : Arena) (rs : List Record) (n : ℕ) (r t : Record) (there : sl
         flags_all = k.flags_all ∙ sym (length-set rs n t);
         at_least_one = k.at_least_one;
         places_all = k.places_all;
-        in_chains = filed_same _ _ no_record _ _ _ _ (λ b i e. links_kept next read i) (λ b. refl)
+        in_chains = filed_same _ _ no_record _ _ _ _ (λ b i e. links_kept rs n r t next read i) (λ b. refl)
             (chain_kept chained (length heads - 1)) k.in_chains;
         in_lists = λ some. both_same _ _ _ _ no_record _ _ _ _ (λ b i e. refl) (λ b i e. refl) (λ b. refl) list_kept
             (k.in_lists some);
         queued = λ i x e linked none. by_cases
-            (λ h. absurd (not_linked t.state is (ap (λ y. y.state) h.1 ∙ linked)))
+            (λ h. absurd (not_both t.state is (ap (λ y. y.state) h.1 ∙ linked)))
             (λ h. k.queued i x h.1 linked none)
             (set_which rs n r t there i x e);
       }

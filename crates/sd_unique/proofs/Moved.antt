@@ -31,7 +31,8 @@ state_node s h = by_cases (λ e. subst IsNode (sym e) tt) (λ e. subst IsNode (s
 pub not_both : (s : RecordState) → s ≡ Detached → s ≡ Linked → ⊥
 not_both s d l = let e : Detached ≡ Linked = sym d ∙ l in cc
 
-not_free : (s : RecordState) → s ≡ Free → IsNode s → ⊥
+-- a record that is free is that of no node
+pub not_free : (s : RecordState) → s ≡ Free → IsNode s → ⊥
 not_free s f node = subst IsNode f node
 
 pub free_not_linked : (s : RecordState) → s ≡ Free → s ≡ Linked → ⊥

@@ -25,7 +25,7 @@ use Rattle.sd_unique.specs.Chains.{list_under, bucket_of, no_record, HoldsNodes,
 use Rattle.sd_unique.proofs.Both.{unfiled_here, unfiled_other, filed_here, filed_other}
 use Rattle.sd_unique.proofs.Changed.{set_which, stored_set}
 use Rattle.sd_unique.proofs.Cut.{filed_cut_first}
-use Rattle.sd_unique.proofs.Detached.{set_twice, slice_set_same}
+use Rattle.sd_unique.proofs.Detached.{set_twice}
 use Rattle.sd_unique.proofs.Entries.{slice_get_at, slice_get_inside, slice_get_set, slice_get_set_other}
 use Rattle.sd_unique.proofs.Filed.{filed_first, filed_same, both_same}
 use Rattle.sd_unique.proofs.FirstChain.{free_in, in_first, head_first, head_set, head_kept, no_others}
@@ -33,9 +33,7 @@ use Rattle.sd_unique.proofs.Loose.{loose_same, loose_split, loose_live, loose_un
 use Rattle.sd_unique.proofs.Numbered.{linked_at, key_at_is, node_key, node_some, picked_from}
 use Rattle.sd_unique.proofs.Picked.{picked_set, picked_same}
 use Rattle.sd_unique.proofs.Reading.{link_there, link_other, head_has, chain_empty, get_or_any}
-
-linked_node : (s : RecordState) → s ≡ Linked → IsNode s
-linked_node s e = subst IsNode (sym e) tt
+use Rattle.sd_unique.proofs.Taken.{linked_state}
 
 module _ (arena : Arena) (rs : List Record) (n : ℕ) (r t : Record) (there : slice_get rs n ≡ Some r)
     (was : r.state ≡ Free) (is : t.state ≡ Linked) where
@@ -151,7 +149,7 @@ module _ (arena : Arena) (rs : List Record) (n : ℕ) (r t : Record) (there : sl
 
     loose_occupied : loose_of arena.live (set rs n t) ≡ remove (loose_of arena.live rs) t.start
     loose_occupied =
-        loose_split arena.live (set rs n t) n t r (slice_set_same rs n t inside) (linked_node t.state is) was
+        loose_split arena.live (set rs n t) n t r (slice_get_set rs n t inside) (linked_state t.state is) was
         ∙ ap (λ ts. remove (loose_of arena.live ts) t.start) (set_twice rs n t r)
         ∙ ap (λ m. remove m t.start) (loose_same arena.live rs n r r there (λ m. refl))
 

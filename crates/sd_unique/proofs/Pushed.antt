@@ -34,6 +34,7 @@ use Rattle.sd_unique.proofs.Filed.{filed_first, both_same}
 use Rattle.sd_unique.proofs.FirstChain.{free_in, head_first, head_set, head_kept}
 use Rattle.sd_unique.proofs.Loose.{loose_none, loose_push, length_in, total_remove, total_loose, remove_insert}
 use Rattle.sd_unique.proofs.Entries.{option_map_some}
+use Rattle.sd_unique.proofs.Moved.{free_not_linked, not_free}
 use Rattle.sd_unique.proofs.Numbered.{some_length, length_there, picked_from, key_at_is, node_key}
 use Rattle.sd_unique.proofs.Occupied.{free_first, none_free, all_nodes}
 use Rattle.sd_unique.proofs.Reading.{get_or_any}
@@ -87,32 +88,26 @@ picked_push : {X Y : Type 0} (f : X → Option Y) (xs : List X) (x : X) → f x 
 picked_push f xs x none =
     same_at_each _ _ (λ q. get_picked f (xs ++ x ∷ []) q ∙ read_push xs x f none q ∙ sym (get_picked f xs q))
 
-free_no_node : (s : RecordState) → s ≡ Free → IsNode s → ⊥
-free_no_node s f node = subst IsNode f node
-
-free_no_link : (s : RecordState) → s ≡ Free → s ≡ Linked → ⊥
-free_no_link s f l = let e : Free ≡ Linked = sym f ∙ l in cc
-
 module _ (arena : Arena) (rs : List Record) (r : Record) (free : r.state ≡ Free) where
   stored_free : length rs + 1 ≤ arena.extent → AreRecordsStored arena rs → AreRecordsStored arena (rs ++ r ∷ [])
   stored_free room st =
       record {
         well = st.well;
         live = λ i x e node. by_cases
-            (λ h. absurd (free_no_node r.state free (subst (λ z. IsNode z.state) (sym h.1) node)))
+            (λ h. absurd (not_free r.state free (subst (λ z. IsNode z.state) (sym h.1) node)))
             (λ h. st.live i x h node)
             (push_which rs r i x e);
         apart = λ i j x y p q nx ny same. by_cases
-            (λ a. absurd (free_no_node r.state free (subst (λ z. IsNode z.state) (sym a.1) nx)))
+            (λ a. absurd (not_free r.state free (subst (λ z. IsNode z.state) (sym a.1) nx)))
             (λ a. by_cases
-            (λ b. absurd (free_no_node r.state free (subst (λ z. IsNode z.state) (sym b.1) ny)))
+            (λ b. absurd (not_free r.state free (subst (λ z. IsNode z.state) (sym b.1) ny)))
             (λ b. st.apart i j x y a b nx ny same)
             (push_which rs r j y q))
             (push_which rs r i x p);
         unique = λ i j x y p q nx ny same. by_cases
-            (λ a. absurd (free_no_link r.state free (ap (λ z. z.state) a.1 ∙ nx)))
+            (λ a. absurd (free_not_linked r.state free (ap (λ z. z.state) a.1 ∙ nx)))
             (λ a. by_cases
-            (λ b. absurd (free_no_link r.state free (ap (λ z. z.state) b.1 ∙ ny)))
+            (λ b. absurd (free_not_linked r.state free (ap (λ z. z.state) b.1 ∙ ny)))
             (λ b. st.unique i j x y a b nx ny same)
             (push_which rs r j y q))
             (push_which rs r i x p);
@@ -168,7 +163,7 @@ module _ (arena : Arena) (rs : List Record) (r : Record) (free : r.state ≡ Fre
             (read_push rs r (λ x. list_by x.state (bit_and x.place 2047))
             (ap (λ s. list_by s (bit_and r.place 2047)) free)) (k.in_lists some);
         queued = λ i x e linked none. by_cases
-            (λ h. absurd (free_no_link r.state free (ap (λ z. z.state) h.1 ∙ linked)))
+            (λ h. absurd (free_not_linked r.state free (ap (λ z. z.state) h.1 ∙ linked)))
             (λ h. slice_get_before flags false i
             (λ same. let inside = slice_get_inside rs i x h in omega (arith, same, inside, k.flags_all))
             ∙ k.queued i x h linked none)

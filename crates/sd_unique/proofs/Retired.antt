@@ -17,9 +17,9 @@ use Rattle.sd_unique.specs.Chains.{next_of, chain_in, list_by, under_by, list_un
 use Rattle.sd_unique.specs.Chains.{no_record, HoldsNodes, KeepsRecords, AreListed}
 use Rattle.sd_unique.specs.Relinking.{unlinked, removed}
 use Rattle.sd_unique.proofs.Changed.{set_which}
-use Rattle.sd_unique.proofs.Detached.{set_twice, slice_set_same}
+use Rattle.sd_unique.proofs.Detached.{set_twice}
 use Rattle.sd_unique.proofs.Detaching.{was_linked, nodes_detached}
-use Rattle.sd_unique.proofs.Entries.{slice_get_inside}
+use Rattle.sd_unique.proofs.Entries.{slice_get_inside, slice_get_set}
 use Rattle.sd_unique.proofs.Filed.{both_same}
 use Rattle.sd_unique.proofs.Leaving.{freed_first}
 use Rattle.sd_unique.proofs.Loose.{IsUntaken}
@@ -108,7 +108,7 @@ module _ (arena : Arena) (rs mid : List Record) (n : ℕ) (m t : Record) (kept :
         (stored_kept rs mid kept arena st)
 
     here : slice_get (set mid n (between m)) n ≡ Some (between m)
-    here = slice_set_same mid n (between m) within
+    here = slice_get_set mid n (between m) within
 
     still_inside : n < length (set mid n (between m))
     still_inside = omega (arith, within, length-set mid n (between m))
@@ -162,6 +162,6 @@ module _ (arena : Arena) (rs mid : List Record) (n : ℕ) (m t : Record) (kept :
 pub state_set : (rs : List Record) (n : ℕ) (t r : Record) → n < length rs → t.state ≡ Free
     → slice_get (set rs n t) n ≡ Some r → r.state ≡ Free
 state_set rs n t r inside is e =
-    let same : Some t ≡ Some r = sym (slice_set_same rs n t inside) ∙ e in
+    let same : Some t ≡ Some r = sym (slice_get_set rs n t inside) ∙ e in
     let is_t : r ≡ t = cc in
     ap (λ (x : Record). x.state) is_t ∙ is

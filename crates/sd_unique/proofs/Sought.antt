@@ -1,10 +1,10 @@
 -- A key is sought among all records, and along the chain of its bucket.
 use Rattle.std.proofs.Common.{◌≡◌, ◌≢◌, inl, inr, ℕ, suc, ◌+◌, ◌<◌, ◌≤◌, List, [], ◌∷◌, length, get_or, slice_get}
-use Rattle.std.proofs.Common.{Some, None, Option, unwrap_or, ◌&&◌, eqb, refl, sym, ◌∙◌, ap, subst, arith}
+use Rattle.std.proofs.Common.{Some, unwrap_or, ◌&&◌, eqb, refl, sym, ◌∙◌, ap, subst, arith}
 use Rattle.std.proofs.lemmas.Bool.{cases_eq}
 use Rattle.std.proofs.lemmas.Bool.Decides.{Decides-and, Decides-eqb}
 use Rattle.std.specs.Bool.{Decides}
-use Rattle.std.specs.Option.{option_and_then, option_map}
+use Rattle.std.specs.Option.{option_and_then}
 use Rattle.std.specs.FinMap.{get}
 use Rattle.sd_runs.specs.Arena.{Arena, IsMember}
 use Rattle.sd_runs.proofs.Places.{by_cases}
@@ -16,7 +16,7 @@ use Rattle.sd_unique.specs.Record.{if_linked, IsNode, key_of, linked_key, nodes_
 use Rattle.sd_unique.specs.Chains.{IsRecordAt, chain_by, chain_under, bucket_of, next_of, head_of, no_record}
 use Rattle.sd_unique.proofs.Both.{chain_short}
 use Rattle.sd_unique.proofs.Entries.{slice_get_at, slice_get_inside}
-use Rattle.sd_unique.proofs.Numbered.{linked_at, linked_record, picked_from}
+use Rattle.sd_unique.proofs.Numbered.{length_there, linked_at, linked_record, picked_from}
 
 -- the test of two pairs
 pub pair_decides : (a b : ℕ × ℕ) → Decides (eqb a.0 b.0 && eqb a.1 b.1) (a ≡ b)
@@ -47,11 +47,6 @@ module _ (arena : Arena) (rs : List Record) (key : ℕ × List (ℕ × ℕ)) (n 
       → get (nodes_of arena rs).linked n ≢ Some key
   other_length st differ e = differ (sym length_of ∙ ap (λ k. length k.1) (key_same e))
     where
-      length_there : (o : Option (List (ℕ × ℕ))) (n : ℕ) → option_map length o ≡ Some n
-          → length (unwrap_or o []) ≡ n
-      length_there None n e = cc
-      length_there (Some l) n e = cc
-
       length_of : length (unwrap_or (get arena.live t.start) []) ≡ t.length
       length_of =
           length_there (get arena.live t.start) t.length (st.live n t there (subst IsNode (sym linked) tt))
