@@ -9,8 +9,6 @@ mod header;
 pub mod laws;
 mod line;
 mod reader;
-#[cfg(test)]
-mod tests;
 mod uses;
 
 pub use fault::AigerFault;

@@ -1,5 +1,5 @@
-// What no clause says: calls with ample memory answer, those on the longest text in time.
-use crate::{AigerFault, read_aiger};
+// Circuits of texts. What no clause says: calls with ample memory answer, those on the longest text in time.
+use sd_aiger::{AigerFault, read_aiger};
 use sd_circuit::{Circuit, Wire};
 use std::alloc::{AllocError, Global};
 use std::test::Fail;
@@ -14,7 +14,7 @@ const WITH_SYMBOLS: &str = "aag 3 2 0 2 1\n4\n2\n6\n7\n6 2 4\ni0 x\nc\nby hand";
 const REVERSED: &str = "aag 5 2 0 1 3\n2\n4\n11\n10 8 7\n8 6 3\n6 2 4\n";
 
 // The circuit of a short text.
-fn circuit_of(alloc: Global, text: &[u8]) -> Result<Circuit, AigerFault> {
+pub(crate) fn circuit_of(alloc: Global, text: &[u8]) -> Result<Circuit, AigerFault> {
     if text.len() > 1000 {
         return Err(AigerFault::OutOfMemory);
     }
@@ -157,6 +157,6 @@ fn gates_of(alloc: Global, text: &[u8]) -> Result<u32, AigerFault> {
 #[test]
 fn a_chain_of_two_million_lines(rt: HostRuntime) -> Result<(), Fail> {
     let text = chain(rt.alloc())?;
-    assert_eq!(rt; gates_of(rt.alloc(), &text), Ok(1_999_999));
+    assert!(rt; gates_of(rt.alloc(), &text) == Ok(1_999_999));
     Ok(())
 }
