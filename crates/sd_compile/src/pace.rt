@@ -12,9 +12,9 @@ use sd_manager::Manager;
 // So many elements, with their nodes, fit the cache that a processor has for itself. There a sweep saves nothing.
 const FITS_CACHE: u32 = 16_384;
 
-// Four elements for each of the 65,536 answers of operations that the cache keeps: as much as these speak of, roughly,
+// Six elements for each of the 65,536 answers of operations that the cache keeps: three nodes, of two elements or more,
 // may be asked for again.
-const LEAST_GARBAGE: u32 = 262_144;
+const LEAST_GARBAGE: u32 = 393_216;
 
 // Over so many variables a group usually meets few of the nodes, so that it seldom asks for what died long ago. Nothing
 // tells that it does not: the number is one of those that were tried.
