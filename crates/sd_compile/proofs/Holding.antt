@@ -1,5 +1,5 @@
 -- What roots hold as a list of diagrams, and the size of such a list.
-use Rattle.std.proofs.Common.{◌≡◌, ◌≢◌, ◌⊎◌, inl, inr, ℕ, ◌+◌, ◌-◌, ◌≤◌, ◌<◌, Bool, true, false, cond, eqb, ltb}
+use Rattle.std.proofs.Common.{◌≡◌, ◌≢◌, ◌⊎◌, inl, inr, ℕ, ◌+◌, ◌-◌, ◌≤◌, ◌<◌, Bool, true, false, cond, ltb}
 use Rattle.std.proofs.Common.{List, [], ◌∷◌, ◌++◌, length, map, Some, refl, sym, ap, subst, ◌∙◌, arith}
 use Rattle.std.specs.Prelude.{unwrap_or}
 use Rattle.std.specs.Option.{option_map}
@@ -7,7 +7,6 @@ use Rattle.std.specs.Ordering.{nat_cmp}
 use Rattle.std.specs.FinMap.{FinMap, get, get-entries, values, entries, find}
 use Rattle.std.specs.Ordering.{eq_by_cmp}
 use Rattle.std.specs.List.{AllZip, flat_map, sum_by}
-use Rattle.std.proofs.lemmas.Bool.{cases_eq}
 use Rattle.std.proofs.lemmas.Bool.Decides.{nat_tests}
 use Rattle.std.proofs.lemmas.Option.{same_Some}
 use Rattle.std.proofs.lemmas.List.Sums.{sum_by-cons}
@@ -23,14 +22,13 @@ use Rattle.sd_laws.proofs.Lists.{IsAmong, IsWithin, all_at, all_from, first_at, 
 use Rattle.sd_manager.specs.Table.{Table}
 use Rattle.sd_manager.specs.Shown.{Shows, ShowsCanonical, IsNodeOf}
 use Rattle.sd_manager.specs.Valid.{IsTable, total_length}
-use Rattle.sd_manager.proofs.Counted.{counts_other, counts_same}
 use Rattle.sd_manager.proofs.Reading.{pairs_count}
 use Rattle.sd_sweep.specs.Reached.{AreHeldDiagrams}
 use Rattle.sd_compile.specs.Total.{IsHeldDiagram}
-use Rattle.sd_sweep.proofs.Below.{among_left, among_right, among_split, only}
+use Rattle.sd_sweep.proofs.Below.{among_split, only}
 use Rattle.sd_sweep.proofs.Fits.{amount_of, amounts_within}
 use Rattle.sd_sweep.proofs.Orders.{same_permutation, occurs_within, within_occurs, occurs_different}
-use Rattle.sd_sweep.proofs.Used.{sum_some}
+use Rattle.sd_sweep.proofs.Rooted.{key_of_value, flat_among, among_flat, shown_all}
 
 -- ---- the values of a map
 
@@ -49,27 +47,6 @@ found_among {X} k (e ∷ es) v h = go (λ f. found_among k es v f) (eq_by_cmp na
 pub value_among : {X : Type 0} (m : FinMap nat_cmp X) (k : ℕ) (v : X) → get m k ≡ Some v → IsAmong v (values m)
 value_among m k v h = found_among k (entries m) v (sym (get-entries m k) ∙ h)
 
--- one of the list counts in it
-counted_among : (v : ℕ) (xs : List ℕ) → IsAmong v xs → 1 ≤ sum_by (λ d. cond (eqb d v) 1 0) xs
-counted_among v [] h = absurd h
-counted_among v (x ∷ xs) (inl e) =
-    omega (arith, sum_by-cons (λ d. cond (eqb d v) 1 0) x xs, counts_same v x (sym e))
-counted_among v (x ∷ xs) (inr m) =
-    omega (arith, sum_by-cons (λ d. cond (eqb d v) 1 0) x xs, counted_among v xs m)
-
--- a number that counts for another is that one
-counted_same : (c d : ℕ) → 1 ≤ cond (eqb d c) 1 0 → d ≡ c
-counted_same c d h = elim (cases_eq d c) [
-  | inl same ↦ same
-  | inr other ↦ absurd (omega (arith, h, counts_other c d other))
-]
-
--- each of the values is the value at some key
-pub among_value : (m : FinMap nat_cmp ℕ) (v : ℕ) → IsAmong v (values m) → (k : ℕ) × (get m k ≡ Some v)
-among_value m v h =
-    let w = sum_some (λ d. cond (eqb d v) 1 0) m (counted_among v (values m) h) in
-    (w.0, w.2 ∙ ap Some (counted_same v w.1 w.3))
-
 -- ---- the diagrams that roots hold
 
 -- what a root holds is one of the held diagrams
@@ -84,46 +61,19 @@ pub among_held : (t : Table) (ds : List Diagram) → AreHeldDiagrams t ds → (d
     IsHeldDiagram t d
 among_held t ds h d m =
     let w = first_at (ShowsCanonical t) (values t.roots) ds h d m in
-    let k = among_value t.roots w.0 w.1 in
+    let k = key_of_value t.roots w.0 w.1 in
     record { root = k.0; code = w.0; held = k.1; is = w.2 }
-
--- codes of nodes show diagrams
-shown_list : (t : Table) (cs : List ℕ) → ((c : ℕ) → IsAmong c cs → IsNodeOf t c) →
-    (ds : List Diagram) × AllZip (ShowsCanonical t) cs ds
-shown_list t [] h = ([], tt)
-shown_list t (c ∷ cs) h =
-    let a = h c (inl refl) in
-    let r = shown_list t cs (λ b m. h b (inr m)) in
-    (a.diagram ∷ r.0, (a.is, r.1))
 
 -- where each root holds a node, there are held diagrams
 pub held_list : (t : Table) → ((root c : ℕ) → get t.roots root ≡ Some c → IsNodeOf t c) →
     (ds : List Diagram) × AreHeldDiagrams t ds
-held_list t h = shown_list t (values t.roots) (λ c m. let k = among_value t.roots c m in h k.0 c k.1)
+held_list t h = shown_all t (values t.roots) (λ c m. let k = key_of_value t.roots c m in h k.0 c k.1)
 
 -- ---- lists of the same diagrams have one size
 
--- what stands under some of a list
-under_some : (xs : List Diagram) (x : Diagram) → IsAmong x (flat_map walk xs) →
-    (d : Diagram) × IsAmong d xs × IsAmong x (walk d)
-under_some [] x m = absurd m
-under_some (d ∷ ds) x m = go (λ k. under_some ds x k) (among_split x (walk d) (flat_map walk ds) m)
-  where
-    go : (IsAmong x (flat_map walk ds) → (e : Diagram) × IsAmong e ds × IsAmong x (walk e)) →
-        IsAmong x (walk d) ⊎ IsAmong x (flat_map walk ds) → (e : Diagram) × IsAmong e (d ∷ ds) × IsAmong x (walk e)
-    go rest (inl k) = (d, inl refl, k)
-    go rest (inr k) = let r = rest k in (r.0, inr r.1, r.2)
-
--- what stands under one of a list stands under the list
-under_all : (xs : List Diagram) (d x : Diagram) → IsAmong d xs → IsAmong x (walk d) → IsAmong x (flat_map walk xs)
-under_all [] d x m k = absurd m
-under_all (e ∷ es) d x (inl same) k =
-    among_left x (walk e) (flat_map walk es) (subst (λ z. IsAmong x (walk z)) same k)
-under_all (e ∷ es) d x (inr m) k = among_right x (walk e) (flat_map walk es) (under_all es d x m k)
-
 -- lists within each other have the same under them
 under_within : (xs ys : List Diagram) → IsWithin xs ys → IsWithin (flat_map walk xs) (flat_map walk ys)
-under_within xs ys h x m = let k = under_some xs x m in under_all ys k.0 x (h k.0 k.1) k.2
+under_within xs ys h x m = let k = flat_among xs x m in among_flat ys k.0 (h k.0 k.1) x k.2
 
 occurs_both : (xs ys : List Diagram) → IsWithin xs ys → IsWithin (first_occurrences xs) (first_occurrences ys)
 occurs_both xs ys h x m = within_occurs ys x (h x (occurs_within xs x m))
@@ -247,7 +197,7 @@ unfolding size_of completed
 size_within t table ds h =
     let xs : List Diagram = first_occurrences (flat_map walk ds) in
     let k = has_codes t table.numbered xs (occurs_different (flat_map walk ds))
-    (λ x m. code x (under_some ds x (occurs_within (flat_map walk ds) x m))) in
+    (λ x m. code x (flat_among ds x (occurs_within (flat_map walk ds) x m))) in
     let same = elements_amount t table k.codes xs k.shown in
     let all = amounts_within list_length t.linked k.codes k.distinct in
     omega (arith, same, all)

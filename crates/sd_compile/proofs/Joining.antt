@@ -17,6 +17,7 @@ use Rattle.sd_formula.specs.Formulas.{IsLiteral, expression_of}
 use Rattle.sd_manager.proofs.Extending.{extends_self}
 use Rattle.sd_apply.proofs.Listed.{shown_on}
 use Rattle.std.proofs.lemmas.Option.{same_Some}
+use Rattle.sd_apply.proofs.JoiningSteps.{constant_value}
 use Rattle.sd_compile.specs.Compiling.{prefix_of, HoldsFormula}
 use Rattle.sd_model.specs.Expression.{Expression}
 use Rattle.sd_manager.specs.Table.{Table}
@@ -140,12 +141,8 @@ pub none_joined : (t : Table) (o : Operation) (c : ℕ) (b : Bool) → b ≡ neu
 none_joined t o c b is shown = record {
   diagram = constant_diagram b;
   is = shown;
-  value = λ assignment. constant b assignment ∙ is;
+  value = λ assignment. constant_value b assignment ∙ is;
 }
-  where
-    constant : (b : Bool) (assignment : List Bool) → meaning (constant_diagram b) assignment ≡ b
-    constant true assignment = refl
-    constant false assignment = refl
 
 -- a literal of a variable from 1 to v is one of the vtree's
 pub literal_of_tree : (v : ℕ) (z : ℤ) → IsLiteral v z → IsLiteralTo v z

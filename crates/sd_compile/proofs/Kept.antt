@@ -1,7 +1,7 @@
 -- What stays when nodes are made, a root holds another node, and a sweep follows.
 use Rattle.std.proofs.Common.{◌≡◌, ◌≢◌, ◌⊎◌, inl, inr, ℕ, ◌+◌, ◌*◌, ◌/◌, ◌≤◌}
 use Rattle.std.proofs.Common.{Some, None, refl, sym, ap, subst, ◌∙◌}
-use Rattle.std.proofs.Common.{arith, List, Bool, Option}
+use Rattle.std.proofs.Common.{arith, List, Bool}
 use Rattle.std.proofs.lemmas.Bool.{cases_eq}
 use Rattle.std.specs.Option.{IsSome}
 use Rattle.std.specs.Ordering.{nat_cmp}
@@ -25,7 +25,6 @@ use Rattle.sd_apply.specs.Surviving.{OnlyTakesAway}
 use Rattle.sd_apply.proofs.Served.{serves_beside, serves_past}
 use Rattle.sd_sweep.specs.Reached.{reached_first, reached_below, IsReached, IsSwept, HasUnreached, KeepsReached}
 use Rattle.sd_sweep.proofs.Keeping.{keeps_both, keeps_swept, keeps_extended}
-use Rattle.sd_manager.specs.Marking.{AreUnmarked}
 use Rattle.sd_formula.specs.Dimacs.{Groups}
 use Rattle.sd_model.specs.Expression.{expression_value}
 use Rattle.sd_compile.specs.declared.error.CompileError.{CompileError}
@@ -387,16 +386,3 @@ serves_roots c t roots serves = serves_beside c t (record t { roots = roots }) r
 -- so where one holds another node
 pub serves_rebound : (c : Answers) (t v : Table) (root node : ℕ) → v ≡ with_root t root node → Serves c t → Serves c v
 serves_rebound c t v root node e h = subst (Serves c) (sym e) (serves_roots c t (insert t.roots root node) h)
-
--- ---- marks
-
--- no mark is on after a sweep
-pub unmarked_swept : (old new : Table) → IsSwept old new → AreUnmarked old → AreUnmarked new
-unmarked_swept old new s h n there = s.marks n there ∙ h n (was there)
-  where
-    was : IsSome (get new.linked n) → IsSome (get old.linked n)
-    was some = go (get new.linked n) refl some
-      where
-        go : (o : Option (ℕ × List (ℕ × ℕ))) → get new.linked n ≡ o → IsSome o → IsSome (get old.linked n)
-        go None e k = absurd (cc (k))
-        go (Some key) e k = subst IsSome (sym (s.only n key e).0) refl

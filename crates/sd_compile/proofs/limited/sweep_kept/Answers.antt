@@ -1,6 +1,7 @@
 use Rattle.std.proofs.Common.{sym, arith}
 use Rattle.sd_sweep.proofs.NeverFalling.{never_swept}
-use Rattle.sd_compile.proofs.Kept.{serves_swept, takes_away, unmarked_swept}
+use Rattle.sd_sweep.proofs.Keeping.{unmarked_swept}
+use Rattle.sd_compile.proofs.Kept.{serves_swept, takes_away}
 use Rattle.sd_compile.proofs.limited.sweep_kept.Goals as goal
 
 pub keep_surviving-requires-clause-serves : goal.keep_surviving-requires-clause-serves
