@@ -7,7 +7,7 @@ use Rattle.std.specs.Option.{IsSome}
 use Rattle.std.specs.Ordering.{nat_cmp}
 use Rattle.std.specs.FinMap.{FinMap, get, insert, remove, len}
 use Rattle.std.proofs.lemmas.Bool.{cases_eq, cases_lt}
-use Rattle.std.proofs.lemmas.List.{get_or_append_left, length-append}
+use Rattle.std.proofs.lemmas.List.{length-append}
 use Rattle.std.proofs.Math.Seq.{get_or-append_seam}
 use Rattle.sd_runs.proofs.Maps.{get_insert_same, get_insert_other, get_remove_same, get_remove_other, same_at_each}
 use Rattle.sd_manager.specs.Table.{Table}
@@ -25,6 +25,7 @@ use Rattle.sd_compile.proofs.Joining.{answer_node}
 use Rattle.sd_compile.proofs.Kept.{kept_holds, kept_answer, serves_roots, all_extended}
 use Rattle.sd_circuit.specs.Circuits.{OrderedCircuit}
 use Rattle.sd_circuit.specs.declared.wire.Wire.TheVariants.{Gate}
+use Rattle.sd_circuit.proofs.Grown.{grown_old}
 use Rattle.sd_gates.specs.Sharing.{AreShared, wire_function, place_of}
 use Rattle.sd_gates.specs.Holding.{AddsRoots, HoldsMore, HoldsOneMore, IsHeldNode, AreHeldBelow, AreHeldNodes}
 use Rattle.sd_gates.specs.Holding.{DropsEntries}
@@ -59,9 +60,6 @@ last_place xs r i h = go (cases_lt i (length xs))
         inr (omega (arith, h, more, long))
 
 -- what stands there
-first_at : (xs : List ℕ) (r i : ℕ) → i < length xs → get_or (xs ++ r ∷ []) i 0 ≡ get_or xs i 0
-first_at xs r i h = get_or_append_left xs (r ∷ []) 0 i h
-
 last_at : (xs : List ℕ) (r i : ℕ) → i ≡ length xs → get_or (xs ++ r ∷ []) i 0 ≡ r
 last_at xs r i e = ap (λ n. get_or (xs ++ r ∷ []) n 0) e ∙ get_or-append_seam xs r [] 0
 
@@ -92,11 +90,11 @@ adds_one before after xs r c adds none = record {
     was = sym (adds.kept r other) ∙ none
 
     fresh : (i : ℕ) → ((i < length xs) ⊎ (i ≡ length xs)) → get before (get_or (xs ++ r ∷ []) i 0) ≡ None
-    fresh i (inl h) = ap (get before) (first_at xs r i h) ∙ adds.fresh i h
+    fresh i (inl h) = ap (get before) (grown_old xs r i h) ∙ adds.fresh i h
     fresh i (inr e) = ap (get before) (last_at xs r i e) ∙ was
 
     held : (i : ℕ) → ((i < length xs) ⊎ (i ≡ length xs)) → IsSome (get (insert after r c) (get_or (xs ++ r ∷ []) i 0))
-    held i (inl h) = subst (λ k. IsSome (get (insert after r c) k)) (sym (first_at xs r i h))
+    held i (inl h) = subst (λ k. IsSome (get (insert after r c) k)) (sym (grown_old xs r i h))
         (subst IsSome (sym (get_insert_other after r c (get_or xs i 0) (other i h))) (adds.held i h))
     held i (inr e) = subst (λ k. IsSome (get (insert after r c) k)) (sym (last_at xs r i e))
         (subst IsSome (sym (get_insert_same after r c)) refl)
@@ -104,16 +102,16 @@ adds_one before after xs r c adds none = record {
     apart : (i j : ℕ) → i < j → ((j < length xs) ⊎ (j ≡ length xs))
         → get_or (xs ++ r ∷ []) i 0 ≢ get_or (xs ++ r ∷ []) j 0
     apart i j l (inl h) e = adds.apart i j l h
-        (sym (first_at xs r i (omega (arith, l, h))) ∙ e ∙ first_at xs r j h)
+        (sym (grown_old xs r i (omega (arith, l, h))) ∙ e ∙ grown_old xs r j h)
     apart i j l (inr is) e = other i (omega (arith, l, is))
-        (sym (first_at xs r i (omega (arith, l, is))) ∙ e ∙ last_at xs r j is)
+        (sym (grown_old xs r i (omega (arith, l, is))) ∙ e ∙ last_at xs r j is)
 
     kept : (root : ℕ) → ((i : ℕ) → i < length (xs ++ r ∷ []) → get_or (xs ++ r ∷ []) i 0 ≢ root)
         → get (insert after r c) root ≡ get before root
     kept root others =
         get_insert_other after r c root
         (λ e. others (length xs) (last_inside xs r) (last_at xs r (length xs) refl ∙ sym e))
-        ∙ adds.kept root (λ i h e. others i (first_inside xs r i h) (first_at xs r i h ∙ e))
+        ∙ adds.kept root (λ i h e. others i (first_inside xs r i h) (grown_old xs r i h ∙ e))
 
 -- the last root is held
 pub last_held : (before after : FinMap nat_cmp ℕ) (xs : List ℕ) (r : ℕ) → AddsRoots before after (xs ++ r ∷ [])
@@ -125,17 +123,17 @@ last_held before after xs r adds = subst (λ k. IsSome (get after k)) (last_at x
 pub adds_less : (before after : FinMap nat_cmp ℕ) (xs : List ℕ) (r : ℕ) → AddsRoots before after (xs ++ r ∷ [])
     → AddsRoots before (remove after r) xs
 adds_less before after xs r adds = record {
-  fresh = λ i h. ap (get before) (sym (first_at xs r i h)) ∙ adds.fresh i (first_inside xs r i h);
+  fresh = λ i h. ap (get before) (sym (grown_old xs r i h)) ∙ adds.fresh i (first_inside xs r i h);
   held = λ i h. subst IsSome (sym (get_remove_other after r (get_or xs i 0) (other i h)))
-      (subst (λ k. IsSome (get after k)) (first_at xs r i h) (adds.held i (first_inside xs r i h)));
+      (subst (λ k. IsSome (get after k)) (grown_old xs r i h) (adds.held i (first_inside xs r i h)));
   apart = λ i j l h e. adds.apart i j l (first_inside xs r j h)
-      (first_at xs r i (omega (arith, l, h)) ∙ e ∙ sym (first_at xs r j h));
+      (grown_old xs r i (omega (arith, l, h)) ∙ e ∙ sym (grown_old xs r j h));
   kept = λ root others. kept root others (cases_eq root r);
 }
   where
     other : (i : ℕ) → i < length xs → get_or xs i 0 ≢ r
     other i h e = adds.apart i (length xs) h (last_inside xs r)
-        (first_at xs r i h ∙ e ∙ sym (last_at xs r (length xs) refl))
+        (grown_old xs r i h ∙ e ∙ sym (last_at xs r (length xs) refl))
 
     was : get before r ≡ None
     was = ap (get before) (sym (last_at xs r (length xs) refl)) ∙ adds.fresh (length xs) (last_inside xs r)
@@ -147,7 +145,7 @@ adds_less before after xs r adds = record {
         ∙ adds.kept root (λ i h e. not_listed i e (last_place xs r i h))
       where
         not_listed : (i : ℕ) → get_or (xs ++ r ∷ []) i 0 ≡ root → ((i < length xs) ⊎ (i ≡ length xs)) → ⊥
-        not_listed i e (inl h) = others i h (sym (first_at xs r i h) ∙ e)
+        not_listed i e (inl h) = others i h (sym (grown_old xs r i h) ∙ e)
         not_listed i e (inr is) = ne (sym (sym (last_at xs r i is) ∙ e))
 
 -- a root that was there holds what it held

@@ -1,5 +1,5 @@
 -- One step after the other, with sweeps between them.
-use Rattle.std.proofs.Common.{◌≡◌, ◌*◌, length, sym, ap, subst, ◌∙◌, arith}
+use Rattle.std.proofs.Common.{◌*◌, length, ap, ◌∙◌, arith}
 use Rattle.std.specs.FinMap.{len}
 use Rattle.sd_model.specs.Tree.{leaves}
 use Rattle.sd_vtree.specs.Numbered.{plain_tree}

@@ -1,5 +1,5 @@
 -- One node after the other is held.
-use Rattle.std.proofs.Common.{◌≡◌, ◌+◌, ◌≤◌, List, get_or, Some, None, sym, ap, subst, ◌∙◌, arith}
+use Rattle.std.proofs.Common.{◌≡◌, ◌+◌, ◌≤◌, get_or, Some, None, sym, ap, subst, ◌∙◌, arith}
 use Rattle.std.specs.FinMap.{len}
 use Rattle.sd_manager.proofs.Held.{held_value}
 use Rattle.sd_manager.specs.Table.{Table}

@@ -1,6 +1,5 @@
 -- The nodes of gates are held while the manager is swept, and their roots are released.
 use Rattle.std.proofs.Common.{◌≡◌, Some, None, get_or, length, sym, ap, subst, ◌∙◌}
-use Rattle.sd_manager.specs.Table.{Table}
 use Rattle.sd_apply.specs.Serving.{Serves}
 use Rattle.sd_compile.specs.Compiling.{KeepsAll}
 use Rattle.sd_compile.proofs.Kept.{serves_roots}
