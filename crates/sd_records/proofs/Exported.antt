@@ -26,6 +26,7 @@ use Rattle.sd_records.specs.declared.records.Ref.{Ref}
 use Rattle.sd_records.specs.declared.records.Ref.TheVariants as refs
 use Rattle.sd_records.specs.declared.listing.Listing.{Listing}
 use Rattle.sd_apply.specs.Answers.{HasAnswer}
+use Rattle.sd_manager.proofs.Reading.{literal_back}
 use Rattle.sd_records.specs.Records.{FlatDiagram, Unfolds, UnfoldElements, UnfoldsCanonical, IsBefore, AreEntries}
 use Rattle.sd_records.specs.Records.{AreRecords, UnfoldToValue}
 use Rattle.sd_records.specs.Stored.{ref_of, entries_of, flat_of}
@@ -37,17 +38,6 @@ use Rattle.sd_records.proofs.Lists.{all_mapped}
 use Rattle.sd_records.proofs.Writing.{refs_in, listed_from_before}
 
 -- ---- codes
-
--- the literal that a literal's code stands for
-literal_back : (x : ℕ) (s : Bool) → literal_at (literal_code x s) ≡ literal_of x s
-literal_back x true =
-    let half : 2 * x / 2 ≡ x = omega arith in
-    let rest : 2 * x % 2 ≡ 0 = omega arith in
-    rw (half, rest) refl
-literal_back x false =
-    let half : (2 * x + 1) / 2 ≡ x = omega arith in
-    let rest : (2 * x + 1) % 2 ≡ 1 = omega arith in
-    rw (half, rest) refl
 
 -- what a constant's code refers to
 low_ref : (marks : List ℕ) (c : ℕ) → c < 2 → ref_of (code_in marks c) ≡ refs.Constant (c == 1)
