@@ -9,8 +9,7 @@ use Rattle.sd_model.specs.declared.trees.Operation.TheVariants.{And}
 use Rattle.sd_model.specs.Tree.{leaves}
 use Rattle.sd_model.specs.Assignment.{value_in}
 use Rattle.sd_model.specs.Diagram.{Diagram, meaning}
-use Rattle.sd_model.specs.Canonical.{IsCanonical}
-use Rattle.sd_vtree.specs.Numbered.{Numbered, number_of, plain_tree}
+use Rattle.sd_vtree.specs.Numbered.{number_of, plain_tree}
 use Rattle.sd_cache.specs.Entries.{Answers, call, is_call}
 use Rattle.sd_laws.proofs.Codes.{one_diagram}
 use Rattle.sd_laws.proofs.Places.{narrowed_by}
@@ -30,7 +29,8 @@ use Rattle.sd_apply.proofs.Standing.{shown}
 use Rattle.sd_apply.proofs.Listed.{node_on, shown_on, under_on}
 use Rattle.sd_apply.proofs.Expanding.{node_at}
 use Rattle.sd_apply.proofs.Joining.{same_answer}
-use Rattle.sd_apply.proofs.TerminalLaws.{AreOpposite, answer_false, shows_false, shows_true, shows_same}
+use Rattle.sd_apply.proofs.Rows.{false_value}
+use Rattle.sd_apply.proofs.TerminalLaws.{AreOpposite, answer_false, answer_node, shows_true, shows_same}
 use Rattle.sd_apply.proofs.TerminalLaws.{opposite_value}
 use Rattle.sd_apply.proofs.Served.{looked_right, right_same}
 use Rattle.sd_apply.proofs.Whole.{root_under}
@@ -57,15 +57,6 @@ all_apart : (u : Bool) → u ≡ (u && not (not u))
 all_apart true = refl
 all_apart false = refl
 
--- the first node is the answer
-answer_first : (t : Table) (v c : ℕ) (f : List Bool → Bool) (x : Diagram) → IsNodeUnder t v c x →
-    ((a : List Bool) → meaning x a ≡ f a) → HasAnswer t f c
-answer_first t v c f x h e = record {
-  diagram = x;
-  is = record { shows = h.shows; canonical = h.under.canonical };
-  value = e;
-}
-
 -- what is known without a node is right
 pub known_subtracts : (t : Table) → IsTable t → (v a b r : ℕ) → known_difference a b ≡ Some r →
     SubtractsAt t t v a b r
@@ -77,12 +68,12 @@ known_subtracts t i v a b r e = record {
         | inl w ↦ subst A (sym w.1) (answer_false t f (λ g. no_rest (meaning x g)
             ∙ ap (λ u. meaning x g && not u) (sym (shows_same t i a b x y p.shows q.shows w.0 g))))
         | inr (inl w) ↦ subst A (sym w.1) (answer_false t f (λ g. ap (λ u. u && not (meaning y g))
-            (sym (shows_false t i a x p.shows w.0 g))))
+            (sym (false_value t i a x p.shows w.0 g))))
         | inr (inr (inl w)) ↦ subst A (sym w.1) (answer_false t f (λ g. no_part (meaning x g)
             ∙ ap (λ u. meaning x g && not u) (sym (shows_true t i b y q.shows w.0 g))))
-        | inr (inr (inr (inl w))) ↦ subst A (sym w.1) (answer_first t v a f x p (λ g. all_left (meaning x g)
-            ∙ ap (λ u. meaning x g && not u) (sym (shows_false t i b y q.shows w.0 g))))
-        | inr (inr (inr (inr w))) ↦ subst A (sym w.1) (answer_first t v a f x p (λ g. all_apart (meaning x g)
+        | inr (inr (inr (inl w))) ↦ subst A (sym w.1) (answer_node t v a f x p (λ g. all_left (meaning x g)
+            ∙ ap (λ u. meaning x g && not u) (sym (false_value t i b y q.shows w.0 g))))
+        | inr (inr (inr (inr w))) ↦ subst A (sym w.1) (answer_node t v a f x p (λ g. all_apart (meaning x g)
             ∙ ap (λ u. meaning x g && not u) (sym (opposite_value t i a b x y p.shows q.shows w.0 g))))
       ];
 }

@@ -13,6 +13,7 @@ use Rattle.sd_laws.specs.Pairs.{answers}
 use Rattle.sd_laws.specs.Shown.{ShowPairs}
 use Rattle.sd_laws.proofs.Codes.{literal_range}
 use Rattle.sd_laws.proofs.Pairs.{answers_permuted}
+use Rattle.sd_laws.proofs.Products.{answers_append}
 use Rattle.sd_manager.specs.Table.{Table}
 use Rattle.sd_manager.specs.Shown.{Shows, ShowsCanonical, IsPartitionAt}
 use Rattle.sd_manager.specs.Making.{Extends}
@@ -27,7 +28,7 @@ use Rattle.sd_apply.proofs.Trees.{children_of, bottom_under, top_under, place_be
 use Rattle.sd_apply.proofs.Standing.{shown}
 use Rattle.sd_apply.proofs.Growing.{grows_left, strictly_either}
 use Rattle.sd_apply.proofs.Expanding.{expand_right, left_under}
-use Rattle.sd_apply.proofs.Listed.{answers_append, children_on, shows_on}
+use Rattle.sd_apply.proofs.Listed.{children_on, shows_on}
 use Rattle.sd_apply.proofs.Merging.{shown_pairs, elements_at, partition_at, partition_permuted}
 use Rattle.sd_apply.proofs.Whole.{elements_from, partition_from}
 

@@ -5,10 +5,11 @@ use Rattle.sd_model.specs.Assignment.{value_in}
 use Rattle.sd_model.specs.Diagram.{Diagram, meaning}
 use Rattle.sd_model.specs.Expression.{combine}
 use Rattle.sd_manager.specs.Table.{Table}
-use Rattle.sd_manager.specs.Shown.{ShowsCanonical}
 use Rattle.sd_manager.specs.Making.{Extends}
 use Rattle.sd_manager.specs.Valid.{IsTable}
+use Rattle.sd_apply.specs.declared.recent.Recent.{Recent}
 use Rattle.sd_apply.specs.declared.halves.BothHalves.{BothHalves}
+use Rattle.sd_apply.specs.Steps.{IsStepAt}
 use Rattle.sd_apply.specs.Answers.{HasAnswer}
 use Rattle.sd_apply.specs.Calls.{Applies}
 use Rattle.sd_apply.specs.Places.{IsCanonicalUnder, IsNodeUnder, IsBelow}
@@ -17,9 +18,9 @@ use Rattle.sd_apply.specs.Halves.{AppliesHalves, AreHalvesOf, MakesHalves}
 use Rattle.sd_apply.proofs.Trees.{answer_under}
 use Rattle.sd_apply.proofs.Listed.{node_on, under_on}
 use Rattle.sd_apply.proofs.Growing.{grows_right, strictly_either}
-use Rattle.sd_apply.proofs.Expanding.{node_at}
+use Rattle.sd_apply.proofs.Steps.{right_step, step_over}
 use Rattle.sd_apply.proofs.Joining.{same_answer}
-use Rattle.sd_apply.proofs.JoiningSteps.{first_half, second_half, grows_up}
+use Rattle.sd_apply.proofs.JoiningSteps.{first_half, second_half}
 
 -- the halves of both nodes are below the right child
 pub first_high : (t : Table) (f : BothHalves) (a b : ℕ) → AreHalvesOf t f a b → IsBelow t f.split.right f.first.0
@@ -130,23 +131,14 @@ applied_same_second m0 m1 i e o f a b r h k one other = record {
 
 -- ---- where the new nodes stand
 
-pub halves_grown : (m0 m1 : Table) → Extends m0 m1 → IsTable m0 → (f : BothHalves) (a b : ℕ) → AreHalvesOf m0 f a b →
-    GrowsBelow m0 m1 f.split.right → GrowsBelow m0 m1 f.node
-halves_grown m0 m1 e i f a b h g =
-    grows_up m0 m1 e i.numbered f.node f.split.left f.split.right h.split.children g
+-- a step below the right child is one at the vtree node
+pub halves_step : {m0 m1 : Table} {c : Recent} (f : BothHalves) (a b : ℕ) → AreHalvesOf m0 f a b →
+    IsStepAt m0 m1 c f.split.right → IsStepAt m0 m1 c f.node
+halves_step f a b h s =
+    step_over f.node f.split.left f.split.right h.split.children (right_step f.split.left s)
 
 pub halves_strictly : (m0 m1 : Table) → Extends m0 m1 → (f : BothHalves) (a b : ℕ) → AreHalvesOf m0 f a b →
     GrowsBelow m0 m1 f.split.right → GrowsStrictlyBelow m0 m1 f.node
 halves_strictly m0 m1 e f a b h g =
     strictly_either m0 m1 f.node f.split.left f.split.right e h.split.children
     (grows_right m0 m1 f.split.left f.split.right g)
-
--- ---- at a vtree node above
-
-pub applied_above : (m0 m1 : Table) (o : Operation) (v p a b r : ℕ) →
-    ((d : Diagram) → ShowsCanonical m0 a d → IsCanonicalUnder m0.vtree p d) →
-    ((d : Diagram) → ShowsCanonical m0 b d → IsCanonicalUnder m0.vtree p d) → Applies m0 m1 o p a b r →
-    Applies m0 m1 o v a b r
-applied_above m0 m1 o v p a b r under_a under_b h = record {
-  each = λ x y px py. h.each x y (node_at m0 v p a x under_a px) (node_at m0 v p b y under_b py);
-}

@@ -24,15 +24,15 @@ use Rattle.sd_apply.specs.Classes.{IsDisjointUnder, AreDisjointBelow, MergesDisj
 use Rattle.sd_apply.specs.Classes.{LackSub, IsWithout, has_answer, JoinsPrimes}
 use Rattle.sd_apply.proofs.Trees.{answer_under, not_under, bottom_under}
 use Rattle.sd_apply.proofs.Listed.{one_answer, answers_push, pair_on}
-use Rattle.sd_manager.proofs.Extending.{extends_self, extends_on}
+use Rattle.sd_manager.proofs.Extending.{extends_on}
 use Rattle.sd_apply.proofs.Listed.{lists_on, lists_push, lists_at, take_answers, take_all, node_on}
 use Rattle.sd_apply.proofs.Listed.{shows_on, under_on}
-use Rattle.sd_apply.proofs.Growing.{either_none, either_both}
 use Rattle.sd_apply.proofs.Rows.{pair_prime}
 use Rattle.sd_apply.proofs.Merging.{always_false, head_of}
 use Rattle.sd_apply.proofs.Expanding.{not_false}
 use Rattle.sd_apply.proofs.Sorting.{sub_then_prime_at, length_sub_then_prime}
-use Rattle.sd_apply.proofs.Steps.{IsStep, InUnion}
+use Rattle.sd_apply.specs.Steps.{IsStep}
+use Rattle.sd_apply.proofs.Steps.{InUnion, none_step, step_on}
 
 -- ---- lists without the pairs of one sub
 
@@ -313,12 +313,7 @@ or_answers (y ∷ xs) p x = refl
 pub union_none : (m : Table) (c : Recent) (u w : ℕ) (l : List (ℕ × ℕ)) → IsTable m → Knows c m →
     InUnion m m c u w l 0 0
 union_none m c u w l i s = record {
-  step = record {
-    kept = extends_self m;
-    knows = s;
-    table = i;
-    grown = either_none m u w;
-  };
+  step = none_step i s;
   union = λ ds hd. record {
     diagram = Bottom;
     is = record { shows = refl; under = bottom_under m.vtree u };
@@ -332,12 +327,7 @@ pub union_next : (m0 m m1 : Table) (c c1 : Recent) (u w : ℕ) (l : List (ℕ ×
     InUnion m0 m1 c1 u w l next (i + 1)
 union_next m0 m m1 c c1 u w l joined next i e h s lt at k =
     record {
-      step = record {
-        kept = extends_on m0 m m1 h.step.kept s.kept;
-        knows = s.knows;
-        table = s.table;
-        grown = either_both m0 m m1 u w s.kept h.step.grown s.grown;
-      };
+      step = step_on h.step s;
       union = λ ds hd.
           let q = h.union ds hd in
           let d = lists_at m0 u w l ds hd i lt e at in

@@ -124,7 +124,7 @@ one_of_two false true y z w e = head_same z w e
 one_of_two false false y z w e = cc
 
 -- two pairs are the list
-two_pairs : (l : List (ℕ × ℕ)) (e f : ℕ × ℕ) → length l ≡ 2 → slice_get l 0 ≡ Some e → slice_get l 1 ≡ Some f →
+pub two_pairs : (l : List (ℕ × ℕ)) (e f : ℕ × ℕ) → length l ≡ 2 → slice_get l 0 ≡ Some e → slice_get l 1 ≡ Some f →
     l ≡ e ∷ f ∷ []
 two_pairs [] e f n a b = absurd (omega (arith, n))
 two_pairs (x ∷ []) e f n a b = absurd (omega (arith, n))

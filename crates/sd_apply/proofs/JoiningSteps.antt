@@ -11,8 +11,6 @@ use Rattle.sd_model.specs.declared.trees.Operation.TheVariants.{And, Or, Xor}
 use Rattle.sd_model.specs.Assignment.{literal_holds, value_in}
 use Rattle.sd_model.specs.Diagram.{Diagram, meaning}
 use Rattle.sd_model.specs.Expression.{combine}
-use Rattle.sd_vtree.specs.Numbered.{IsNumbered}
-use Rattle.sd_vtree.specs.Numbered.{IsUnder as StandsUnder}
 use Rattle.sd_laws.proofs.Codes.{one_diagram}
 use Rattle.sd_manager.specs.Literals.{code_of_literal}
 use Rattle.sd_manager.specs.Table.{Table}
@@ -21,20 +19,18 @@ use Rattle.sd_manager.specs.Making.{Extends}
 use Rattle.sd_manager.specs.Valid.{IsTable}
 use Rattle.sd_apply.specs.declared.recent.Recent.{Recent}
 use Rattle.sd_apply.specs.declared.node_answers.NodeAnswers.{NodeAnswers}
-use Rattle.sd_apply.specs.Recent.{Knows}
+use Rattle.sd_apply.specs.Steps.{IsStepAt}
 use Rattle.sd_apply.specs.Answers.{HasAnswer}
 use Rattle.sd_apply.specs.Calls.{Applies}
-use Rattle.sd_apply.specs.Growing.{GrowsBelow}
-use Rattle.sd_apply.specs.Places.{IsNodeUnder, IsBelow, HasChildren}
+use Rattle.sd_apply.specs.Places.{IsNodeUnder, IsBelow}
 use Rattle.sd_apply.specs.Group.{group_value}
 use Rattle.sd_apply.specs.Halves.{Halves, MakesHalves}
 use Rattle.sd_apply.specs.GroupCalls.{JoinsHalves, joined_value, JoinsFrom, IsLiteralBelow}
 use Rattle.sd_apply.specs.GroupCalls.{AreLiteralsBelow, IsGroupNode, deciding}
 use Rattle.sd_apply.specs.GroupCalls.{between, IsFound, IsFoundBefore, Remembers}
 use Rattle.sd_apply.proofs.Trees.{bottom_under, top_under, answer_under}
-use Rattle.sd_apply.proofs.Listed.{node_on, answer_on, shown_on, children_on}
+use Rattle.sd_apply.proofs.Listed.{node_on, answer_on, shown_on}
 use Rattle.sd_apply.proofs.Standing.{shown}
-use Rattle.sd_apply.proofs.Growing.{grows_over, grows_right, grows_wider}
 use Rattle.sd_apply.proofs.JoiningPlaces.{joined_under, literals_on}
 use Rattle.sd_apply.proofs.Joining.{from_more, from_none, decides, decides_first, same_answer}
 
@@ -52,10 +48,7 @@ constant_value false g = refl
 -- what joining the literals from an index on leaves
 pub record InGroup (old new : Table) (c : Recent) (o : Operation) (at index : ℕ) (l : List (ℕ × ℤ)) (node : ℕ) :
     Type 0 where
-  pub kept : Extends old new
-  pub knows : Knows c new
-  pub table : IsTable new
-  pub grown : GrowsBelow old new at
+  pub step : IsStepAt old new c at
   pub group : IsGroupNode new o at index l node
 
 -- no literals
@@ -198,18 +191,6 @@ remembers_on n old new x o l h = record {
             q.answer_is;
       };
 }
-
--- what is new below the right child is new below the node
-pub grows_up : (a b : Table) → Extends a b → IsNumbered a.vtree → (p u w : ℕ) → HasChildren a.vtree p u w →
-    GrowsBelow a b w → GrowsBelow a b p
-grows_up a b x i p u w e g =
-    grows_over a b (subst IsNumbered (sym x.vtree) i) p u w (children_on a b x p u w e) (grows_right a b u w g)
-
--- what is new below a vtree node under another is new below the other
-pub grows_lower : (a b : Table) → Extends a b → IsNumbered a.vtree → (w p : ℕ) → StandsUnder a.vtree w p →
-    GrowsBelow a b w → GrowsBelow a b p
-grows_lower a b x i w p under g =
-    grows_wider a b (subst IsNumbered (sym x.vtree) i) w p (subst (λ t. StandsUnder t w p) (sym x.vtree) under) g
 
 -- ---- from halves
 

@@ -2,7 +2,7 @@
 use Rattle.std.proofs.Common.{◌≡◌, ℕ, zero, suc, ◌+◌, ◌≤◌, ◌<◌, Bool, true, false}
 use Rattle.std.proofs.Common.{cond, List, [], ◌∷◌, ◌++◌}
 use Rattle.std.proofs.Common.{length, take, get_or, slice_get, Some, refl, sym, ◌∙◌, ap}
-use Rattle.std.proofs.Common.{subst, arith, append_assoc, append-nil}
+use Rattle.std.proofs.Common.{subst, arith, append-nil}
 use Rattle.std.specs.List.{AllZip}
 use Rattle.std.specs.FinMap.{get}
 use Rattle.std.specs.List.Sorted.{IsPermutation}
@@ -12,6 +12,7 @@ use Rattle.sd_model.specs.Diagram.{Diagram, meaning}
 use Rattle.sd_laws.specs.Pairs.{answers}
 use Rattle.sd_laws.proofs.Codes.{shows_kept}
 use Rattle.sd_laws.proofs.Lists.{first_permuted}
+use Rattle.sd_laws.proofs.Products.{answers_append}
 use Rattle.sd_manager.specs.Table.{Table}
 use Rattle.sd_manager.specs.Shown.{Shows, ShowsCanonical}
 use Rattle.sd_manager.specs.Making.{Extends}
@@ -124,14 +125,6 @@ answers_cons a d ds =
       | true ↦ refl
       | false ↦ refl
     ]
-
-pub answers_append : (a : List Bool) (ds fs : List (Diagram × Diagram)) →
-    answers a (ds ++ fs) ≡ answers a ds ++ answers a fs
-answers_append a [] fs = refl
-answers_append a (d ∷ ds) fs =
-    answers_cons a d (ds ++ fs) ∙ ap (λ l. one_answer a d ++ l) (answers_append a ds fs)
-    ∙ sym (append_assoc (one_answer a d) (answers a ds) (answers a fs))
-    ∙ ap (λ l. l ++ answers a fs) (sym (answers_cons a d ds))
 
 pub answers_push : (a : List Bool) (ds : List (Diagram × Diagram)) (d : Diagram × Diagram) →
     answers a (ds ++ d ∷ []) ≡ answers a ds ++ one_answer a d

@@ -6,7 +6,7 @@ use Rattle.std.specs.List.{AllZip, AllByRecursion}
 use Rattle.std.specs.FinMap.{get}
 use Rattle.std.proofs.Math.Seq.{take-length}
 use Rattle.std.proofs.lemmas.List.Elements.{AllZip-push}
-use Rattle.std.proofs.lemmas.Option.{same_Some, slice_get-get_or, slice_get_within, get_or_from_slice_get}
+use Rattle.std.proofs.lemmas.Option.{slice_get-get_or, slice_get_within, get_or_from_slice_get}
 use Rattle.sd_model.specs.Tree.{AreDistinct, leaves}
 use Rattle.sd_model.specs.Diagram.{Diagram, meaning, subs}
 use Rattle.sd_vtree.specs.Numbered.{plain_tree}
@@ -19,7 +19,7 @@ use Rattle.sd_manager.specs.Shown.{Shows, ShowsCanonical}
 use Rattle.sd_manager.specs.Views.{pairs_at}
 use Rattle.sd_manager.specs.Making.{Extends}
 use Rattle.sd_manager.specs.Valid.{IsTable}
-use Rattle.sd_manager.proofs.Extending.{extends_self, extends_on}
+use Rattle.sd_manager.proofs.Extending.{extends_self}
 use Rattle.sd_apply.specs.declared.recent.Recent.{Recent}
 use Rattle.sd_apply.specs.Recent.{Knows}
 use Rattle.sd_apply.specs.Places.{IsNodeUnder, IsBelow, HasPlace, HasChildren}
@@ -28,10 +28,11 @@ use Rattle.sd_apply.specs.Calls.{NegatesAt, IsNegated, NegatesSubs, Joins}
 use Rattle.sd_apply.proofs.Trees.{apart, not_under}
 use Rattle.sd_apply.proofs.Listed.{node_on, pair_on, answer_on, take_next}
 use Rattle.sd_apply.proofs.Rows.{pair_sub, sub_below, paired_at}
-use Rattle.sd_apply.proofs.Growing.{either_none, either_both}
+use Rattle.sd_apply.proofs.Joining.{two_pairs}
 use Rattle.sd_apply.proofs.TerminalLaws.{not_not}
 use Rattle.sd_apply.proofs.Expanding.{own_elements}
-use Rattle.sd_apply.proofs.Steps.{IsStep, InFlip}
+use Rattle.sd_apply.specs.Steps.{IsStep}
+use Rattle.sd_apply.proofs.Steps.{InFlip, none_step, step_on}
 
 -- what was negated in a table that had grown, seen from the tables before and after
 pub negates_on : (m0 m m1 m2 : Table) → Extends m0 m → Extends m1 m2 → (w a r : ℕ) → NegatesAt m m1 w a r →
@@ -57,12 +58,7 @@ pub negate_subs_none : (m0 : Table) (c : Recent) (u w : ℕ) (l : List (ℕ × �
     Knows c m0 → InFlip m0 m0 c u w l [] 0
 negate_subs_none m0 c u w l i s =
     record {
-      step = record {
-        kept = extends_self m0;
-        knows = s;
-        table = i;
-        grown = either_none m0 u w;
-      };
+      step = none_step i s;
       flipped = tt;
     }
 
@@ -82,12 +78,7 @@ negate_subs_next m0 m m1 c c1 u w l r r1 i e other h s lt at k pushed =
     let there : slice_get l i ≡ Some e = slice_get-get_or l i (0, 0) lt ∙ ap Some (sym at) in
     let both = AllZip-push (IsNegated m0 m1 w) (take i l) r e (e.0, other) old new in
     record {
-      step = record {
-        kept = extends_on m0 m m1 h.step.kept s.kept;
-        knows = s.knows;
-        table = s.table;
-        grown = either_both m0 m m1 u w s.kept h.step.grown s.grown;
-      };
+      step = step_on h.step s;
       flipped = subst (λ y. N (take (i + 1) l) y) (sym pushed)
           (subst (λ x. N x (r ++ (e.0, other) ∷ [])) (sym (take_next l i e there)) both);
     }
@@ -102,15 +93,6 @@ negate_subs_done m0 m c u w l r i h lo hi =
 
 -- ---- two elements
 
--- a list of two has the elements that are read of it
-two_elements : (l : List (ℕ × ℕ)) (e f : ℕ × ℕ) → length l ≡ 2 → slice_get l 0 ≡ Some e →
-    slice_get l 1 ≡ Some f → l ≡ e ∷ f ∷ []
-two_elements [] e f n a b = absurd (omega (arith, n))
-two_elements (x ∷ []) e f n a b = absurd (omega (arith, n))
-two_elements (x ∷ y ∷ []) e f n a b =
-    ap (λ z. z ∷ y ∷ []) (same_Some x e a) ∙ ap (λ z. e ∷ z ∷ []) (same_Some y f b)
-two_elements (x ∷ y ∷ z ∷ l) e f n a b = absurd (omega (arith, n))
-
 -- the sub of an element that is read is below the right child
 pub read_below : (t : Table) (u w : ℕ) (l : List (ℕ × ℕ)) (i : ℕ) (e : ℕ × ℕ) → AreListedElements t u w l →
     slice_get l i ≡ Some e → IsBelow t w e.1
@@ -123,7 +105,7 @@ pub two_negated : (m0 m1 : Table) (w : ℕ) (l : List (ℕ × ℕ)) (e f : ℕ �
     slice_get l 0 ≡ Some e → slice_get l 1 ≡ Some f → NegatesAt m0 m1 w e.1 r → NegatesAt m0 m1 w f.1 s →
     NegatesSubs m0 m1 w l ((e.0, r) ∷ (f.0, s) ∷ [])
 two_negated m0 m1 w l e f r s n a b h k =
-    subst (λ x. NegatesSubs m0 m1 w x ((e.0, r) ∷ (f.0, s) ∷ [])) (sym (two_elements l e f n a b))
+    subst (λ x. NegatesSubs m0 m1 w x ((e.0, r) ∷ (f.0, s) ∷ [])) (sym (two_pairs l e f n a b))
     (record { prime = refl; sub = h }, (record { prime = refl; sub = k }, tt))
 
 -- ---- subs that differ have negations that differ

@@ -15,7 +15,7 @@ use Rattle.sd_model.specs.Expression.{combine}
 use Rattle.sd_vtree.specs.Numbered.{plain_tree}
 use Rattle.sd_laws.specs.Shown.{literal_code}
 use Rattle.sd_laws.specs.Parts.{leaf_position}
-use Rattle.sd_laws.proofs.Codes.{one_diagram, bottom_from_code, top_from_code, literal_range}
+use Rattle.sd_laws.proofs.Codes.{one_diagram, top_from_code, literal_range}
 use Rattle.sd_laws.proofs.Codes.{node_range}
 use Rattle.sd_laws.proofs.Connectives.{combine_exchanged}
 use Rattle.sd_laws.proofs.Numbers.{literal_canonical}
@@ -27,9 +27,10 @@ use Rattle.sd_apply.specs.Answers.{HasAnswer}
 use Rattle.sd_apply.specs.Terminal.{terminal_of, opposite_of}
 use Rattle.sd_apply.specs.Places.{IsNodeUnder}
 use Rattle.sd_apply.specs.Calls.{Applies, NegatesAt}
+use Rattle.sd_apply.proofs.Rows.{false_value}
 
 -- an answer that is an argument or a constant
-answer_node : (t : Table) (v c : ℕ) (f : List Bool → Bool) (x : Diagram) → IsNodeUnder t v c x →
+pub answer_node : (t : Table) (v c : ℕ) (f : List Bool → Bool) (x : Diagram) → IsNodeUnder t v c x →
     ((a : List Bool) → meaning x a ≡ f a) → HasAnswer t f c
 answer_node t v c f x h e =
     record {
@@ -137,12 +138,6 @@ not_not false = refl
 code_at : (t : Table) (a b : ℕ) (x : Diagram) → Shows t a x → a ≡ b → Shows t b x
 code_at t a b x h e = let S : ℕ → Type 0 = λ c. Shows t c x in subst S e h
 
-pub shows_false : (t : Table) → IsTable t → (a : ℕ) (x : Diagram) → Shows t a x → a ≡ 0 →
-    (g : List Bool) → meaning x g ≡ false
-shows_false t i a x h e g =
-    ap (λ d. meaning d g) (bottom_from_code t.vtree (get t.linked) i.numbered x (code_at t a 0 x h
-    e))
-
 pub shows_true : (t : Table) → IsTable t → (a : ℕ) (x : Diagram) → Shows t a x → a ≡ 1 →
     (g : List Bool) → meaning x g ≡ true
 shows_true t i a x h e g =
@@ -198,9 +193,9 @@ and_terminal t i v a b r e = record {
             ∙ ap (combine And (meaning x g)) (sym (shows_same t i a b x y p.shows q.shows w.0 g))))
         | inr (inl w) ↦ subst A (sym w.1) (answer_false t f (λ g. ap (λ u. combine And u
             (meaning y g))
-            (sym (shows_false t i a x p.shows w.0 g))))
+            (sym (false_value t i a x p.shows w.0 g))))
         | inr (inr (inl w)) ↦ subst A (sym w.1) (answer_false t f (λ g. and_false (meaning x g)
-            ∙ ap (combine And (meaning x g)) (sym (shows_false t i b y q.shows w.0 g))))
+            ∙ ap (combine And (meaning x g)) (sym (false_value t i b y q.shows w.0 g))))
         | inr (inr (inr (inl w))) ↦ subst A (sym w.1) (answer_node t v b f y q
             (λ g. ap (λ u. combine And u (meaning y g))
             (sym (shows_true t i a x p.shows w.0 g))))
@@ -225,10 +220,10 @@ or_terminal t i v a b r e = record {
             ∙ ap (combine Or (meaning x g)) (sym (shows_same t i a b x y p.shows q.shows w.0 g))))
         | inr (inl w) ↦ subst A (sym w.1) (answer_node t v b f y q
             (λ g. ap (λ u. combine Or u (meaning y g))
-            (sym (shows_false t i a x p.shows w.0 g))))
+            (sym (false_value t i a x p.shows w.0 g))))
         | inr (inr (inl w)) ↦ subst A (sym w.1) (answer_node t v a f x p (λ g. or_false
             (meaning x g)
-            ∙ ap (combine Or (meaning x g)) (sym (shows_false t i b y q.shows w.0 g))))
+            ∙ ap (combine Or (meaning x g)) (sym (false_value t i b y q.shows w.0 g))))
         | inr (inr (inr (inl w))) ↦ subst A (sym w.1) (answer_true t f
             (λ g. ap (λ u. combine Or u (meaning y g))
             (sym (shows_true t i a x p.shows w.0 g))))
@@ -253,10 +248,10 @@ xor_terminal t i v a b r e = record {
             ∙ ap (combine Xor (meaning x g)) (sym (shows_same t i a b x y p.shows q.shows w.0 g))))
         | inr (inl w) ↦ subst A (sym w.1) (answer_node t v b f y q (λ g. ap (λ u. combine Xor u
             (meaning y g))
-            (sym (shows_false t i a x p.shows w.0 g))))
+            (sym (false_value t i a x p.shows w.0 g))))
         | inr (inr (inl w)) ↦ subst A (sym w.1) (answer_node t v a f x p (λ g. xor_false
             (meaning x g)
-            ∙ ap (combine Xor (meaning x g)) (sym (shows_false t i b y q.shows w.0 g))))
+            ∙ ap (combine Xor (meaning x g)) (sym (false_value t i b y q.shows w.0 g))))
         | inr (inr (inr w)) ↦ subst A (sym w.1) (answer_true t f (λ g. opposite_xor (meaning x g)
             ∙ ap (combine Xor (meaning x g)) (sym (opposite_value t i a b x y p.shows q.shows w.0
             g))))

@@ -14,7 +14,6 @@ use Rattle.sd_laws.proofs.Connectives.{combine_exchanged}
 use Rattle.sd_manager.specs.Table.{Table}
 use Rattle.sd_manager.specs.Shown.{Shows}
 use Rattle.sd_manager.specs.Valid.{IsTable}
-use Rattle.sd_manager.proofs.Extending.{extends_self, extends_on}
 use Rattle.sd_apply.specs.declared.recent.Recent.{Recent}
 use Rattle.sd_apply.specs.Recent.{Knows}
 use Rattle.sd_apply.specs.Terminal.{deciding_code}
@@ -26,13 +25,13 @@ use Rattle.sd_apply.specs.Classes.{IsDisjointUnder, AreDisjointBelow}
 use Rattle.sd_apply.proofs.Trees.{answer_under}
 use Rattle.sd_apply.proofs.Listed.{one_answer, answers_push, pair_on, lists_on, lists_push, lists_none, lists_at}
 use Rattle.sd_apply.proofs.Listed.{take_answers, take_all}
-use Rattle.sd_apply.proofs.Growing.{either_none, either_both}
 use Rattle.sd_apply.proofs.Rows.{pair_prime, false_value}
 use Rattle.sd_apply.proofs.Merging.{part_answers, always_false, or_false_left}
 use Rattle.sd_apply.proofs.Same.{same_shown}
 use Rattle.sd_apply.proofs.TerminalLaws.{shows_true}
 use Rattle.sd_apply.proofs.ByTwo.{two_shown}
-use Rattle.sd_apply.proofs.Steps.{IsStep, AreUndecided, InUndecided}
+use Rattle.sd_apply.specs.Steps.{IsStep}
+use Rattle.sd_apply.proofs.Steps.{AreUndecided, InUndecided, none_step, step_on}
 
 -- ---- the value that decides
 
@@ -90,12 +89,7 @@ last_step o q v z (x ∷ y ∷ xs) ys ps j n e h = absurd (omega (arith, n))
 pub undecided_none : (m : Table) (c : Recent) (o : Operation) (u w : ℕ) (l : List (ℕ × ℕ)) (e f : ℕ × ℕ) → IsTable m →
     Knows c m → InUndecided m m c o u w l e f [] f.0 0
 undecided_none m c o u w l e f i s = record {
-  step = record {
-    kept = extends_self m;
-    knows = s;
-    table = i;
-    grown = either_none m u w;
-  };
+  step = none_step i s;
   made = λ ds x y hd hx hy apart. record {
     shown = [];
     joined = y.0;
@@ -112,12 +106,7 @@ pub undecided_join : (m0 m m1 : Table) (c c1 : Recent) (o : Operation) (u w : �
     g.1 ≡ f.1 → Applies m m1 Or u g.0 union next → InUndecided m0 m1 c1 o u w l e f r next (i + 1)
 undecided_join m0 m m1 c c1 o u w l e f r union next i g table h s lt at code same k =
     record {
-      step = record {
-        kept = extends_on m0 m m1 h.step.kept s.kept;
-        knows = s.knows;
-        table = s.table;
-        grown = either_both m0 m m1 u w s.kept h.step.grown s.grown;
-      };
+      step = step_on h.step s;
       made = λ ds x y hd hx hy apart.
           let old = h.made ds x y hd hx hy apart in
           let d = lists_at m0 u w l ds hd.lists i lt g at in
@@ -185,12 +174,7 @@ pub undecided_product : (m0 m m1 : Table) (c c1 : Recent) (o : Operation) (u w :
     MultipliesElement m m1 o u w g (e ∷ []) r r1 → InUndecided m0 m1 c1 o u w l e f r1 union (i + 1)
 undecided_product m0 m m1 c c1 o u w l e f r r1 union i g table h s lt at code k =
     record {
-      step = record {
-        kept = extends_on m0 m m1 h.step.kept s.kept;
-        knows = s.knows;
-        table = s.table;
-        grown = either_both m0 m m1 u w s.kept h.step.grown s.grown;
-      };
+      step = step_on h.step s;
       made = λ ds x y hd hx hy apart.
           let old = h.made ds x y hd hx hy apart in
           let d = lists_at m0 u w l ds hd.lists i lt g at in

@@ -1,9 +1,9 @@
 // The operations of one call: the cache is asked once, and keeps the answer. What the operation asks
 // on its way stands in the table that the cache lends.
 ghost use Rattle.std.specs.Prelude.{◌≡◌, ◌≤◌, ◌/◌, IfOk, IfErr, OnErr};
-ghost use Rattle.sd_manager.specs.Valid.{IsTable};
-ghost use Rattle.sd_manager.specs.Making.{Extends, KeepsRule};
-ghost use Rattle.sd_apply.specs.Growing.{GrowsBelowBoth, GrowsByAnswerBoth, GrowsStrictlyBelowBoth};
+ghost use Rattle.sd_manager.specs.Making.{KeepsRule};
+ghost use Rattle.sd_apply.specs.CachedSteps.{IsCachedStep};
+ghost use Rattle.sd_apply.specs.Growing.{GrowsByAnswerBoth, GrowsStrictlyBelowBoth};
 ghost use Rattle.sd_apply.specs.Serving.{Serves};
 ghost use Rattle.sd_apply.specs.Places.{IsBelow, IsThere};
 ghost use Rattle.sd_apply.specs.Calls.{Applies, NegatesAt};
@@ -36,13 +36,10 @@ pub(crate) fn apply_cached(
     requires b { IsBelow m.old at b }
     requires serves { Serves c.old m.old }
     ensures ok { IfOk result (λ r. Applies m.old m.new operation at a b r) }
-    ensures kept { Extends m.old m.new }
-    ensures grown { GrowsBelowBoth m.old m.new a b }
+    ensures step { IsCachedStep m.old m.new c.new a b }
     ensures one { IfOk result (λ r. GrowsByAnswerBoth m.old m.new a b r) }
     ensures none { OnErr result (GrowsStrictlyBelowBoth m.old m.new a b) }
-    ensures serves { Serves c.new m.new }
     ensures rule { IfErr result (λ e. KeepsRule m.new e) }
-    ensures table { IsTable m.new }
 {
     // its contract tells that the table is valid
     let _ = m.vtree();
@@ -83,13 +80,10 @@ fn look_up_or_apply(
     requires differ { a / 2 ≡ b / 2 → 2050 ≤ a }
     requires serves { Serves c.old m.old }
     ensures ok { IfOk result (λ r. Applies m.old m.new operation at a b r) }
-    ensures kept { Extends m.old m.new }
-    ensures grown { GrowsBelowBoth m.old m.new a b }
+    ensures step { IsCachedStep m.old m.new c.new a b }
     ensures one { IfOk result (λ r. GrowsByAnswerBoth m.old m.new a b r) }
     ensures none { OnErr result (GrowsStrictlyBelowBoth m.old m.new a b) }
-    ensures serves { Serves c.new m.new }
     ensures rule { IfErr result (λ e. KeepsRule m.new e) }
-    ensures table { IsTable m.new }
 {
     let epoch = m.epoch();
     let kind = number(operation);
@@ -121,13 +115,10 @@ pub(crate) fn negate_cached(
     requires a { IsBelow m.old at a }
     requires serves { Serves c.old m.old }
     ensures ok { IfOk result (λ r. NegatesAt m.old m.new at a r) }
-    ensures kept { Extends m.old m.new }
-    ensures grown { GrowsBelowBoth m.old m.new a a }
+    ensures step { IsCachedStep m.old m.new c.new a a }
     ensures one { IfOk result (λ r. GrowsByAnswerBoth m.old m.new a a r) }
     ensures none { OnErr result (GrowsStrictlyBelowBoth m.old m.new a a) }
-    ensures serves { Serves c.new m.new }
     ensures rule { IfErr result (λ e. KeepsRule m.new e) }
-    ensures table { IsTable m.new }
 {
     let epoch = m.epoch();
     if let Some(code) = opposite(a.0) {

@@ -3,6 +3,7 @@ ghost use Rattle.std.specs.Prelude.{◌≡◌, ◌≤◌, ◌/◌, IfOk, IfErr};
 ghost use Rattle.sd_manager.specs.Shown.{IsNodeOf};
 ghost use Rattle.sd_manager.specs.Valid.{IsTable};
 ghost use Rattle.sd_manager.specs.Making.{Extends, KeepsRule};
+ghost use Rattle.sd_apply.specs.CachedSteps.{IsCachedStep};
 ghost use Rattle.sd_apply.specs.Growing.{GrowsBelowBoth};
 ghost use Rattle.sd_apply.specs.Serving.{Serves};
 ghost use Rattle.sd_apply.specs.Places.{IsBelow, IsThere};
@@ -56,11 +57,8 @@ fn subtract_cached(
     requires b { IsBelow m.old at b }
     requires serves { Serves c.old m.old }
     ensures ok { IfOk result (λ r. SubtractsAt m.old m.new at a b r) }
-    ensures kept { Extends m.old m.new }
-    ensures grown { GrowsBelowBoth m.old m.new a b }
-    ensures serves { Serves c.new m.new }
+    ensures step { IsCachedStep m.old m.new c.new a b }
     ensures rule { IfErr result (λ e. KeepsRule m.new e) }
-    ensures table { IsTable m.new }
 {
     // its contract tells that the table is valid
     let _ = m.vtree();
@@ -91,11 +89,8 @@ fn look_up_or_subtract(
     requires differ { a / 2 ≡ b / 2 → 2050 ≤ a }
     requires serves { Serves c.old m.old }
     ensures ok { IfOk result (λ r. SubtractsAt m.old m.new at a b r) }
-    ensures kept { Extends m.old m.new }
-    ensures grown { GrowsBelowBoth m.old m.new a b }
-    ensures serves { Serves c.new m.new }
+    ensures step { IsCachedStep m.old m.new c.new a b }
     ensures rule { IfErr result (λ e. KeepsRule m.new e) }
-    ensures table { IsTable m.new }
 {
     let epoch = m.epoch();
     if let Some(code) = c.look(epoch, DIFFERENCE, a.0, b.0) {

@@ -1,10 +1,9 @@
 // A node as elements at the lowest vtree node of an operation.
 ghost use Rattle.std.specs.Prelude.{◌≤◌, ◌<◌, length, IfOk, IfErr};
 ghost use Rattle.sd_vtree.specs.Numbered.{numbers};
-ghost use Rattle.sd_manager.specs.Valid.{IsTable};
-ghost use Rattle.sd_manager.specs.Making.{Extends, KeepsRule};
+ghost use Rattle.sd_manager.specs.Making.{KeepsRule};
 ghost use Rattle.sd_apply.specs.Recent.{Knows};
-ghost use Rattle.sd_apply.specs.Growing.{GrowsBelowEither};
+ghost use Rattle.sd_apply.specs.Steps.{IsStep};
 ghost use Rattle.sd_apply.specs.Places.{IsBelow, IsFork};
 ghost use Rattle.sd_apply.specs.Calls.{Expands};
 
@@ -31,11 +30,8 @@ pub(crate) fn expand(
     requires knows { Knows recent.old m.old }
     ensures ok { IfOk result
         (λ r. Expands m.old m.new fork.now.node fork.now.left fork.now.right a r.items) }
-    ensures kept { Extends m.old m.new }
-    ensures grown { GrowsBelowEither m.old m.new fork.now.left fork.now.right }
-    ensures knows { Knows recent.new m.new }
+    ensures step { IsStep m.old m.new recent.new fork.now.left fork.now.right }
     ensures rule { IfErr result (λ e. KeepsRule m.new e) }
-    ensures table { IsTable m.new }
 {
     let place = fork.node;
     let own = place_of(m, a);

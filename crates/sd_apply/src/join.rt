@@ -20,7 +20,7 @@ ghost use Rattle.sd_manager.specs.Literals.{code_of_literal};
 ghost use Rattle.sd_manager.specs.Shown.{IsNodeOf, ShowsCanonical};
 ghost use Rattle.sd_manager.specs.Valid.{IsTable};
 ghost use Rattle.sd_manager.specs.Making.{Extends, KeepsRule};
-ghost use Rattle.sd_apply.specs.Growing.{GrowsBelow};
+ghost use Rattle.sd_apply.specs.Steps.{IsStepAt};
 ghost use Rattle.sd_apply.specs.Recent.{Knows};
 ghost use Rattle.sd_apply.specs.Serving.{Serves};
 ghost use Rattle.sd_apply.specs.Places.{width, IsBelow, IsThere, HasChildren, HasPlace};
@@ -167,12 +167,9 @@ fn join_from(
     requires knows { Knows tables.old.recent m.old }
     requires remembers { Remembers tables.old.found m.old operation literals.now }
     ensures ok { IfOk result (λ r. JoinsFrom m.old m.new operation at node from literals.now r) }
-    ensures kept { Extends m.old m.new }
-    ensures grown { GrowsBelow m.old m.new at }
-    ensures knows { Knows tables.new.recent m.new }
+    ensures step { IsStepAt m.old m.new tables.new.recent at }
     ensures remembers { Remembers tables.new.found m.new operation literals.now }
     ensures rule { IfErr result (λ e. KeepsRule m.new e) }
-    ensures table { IsTable m.new }
 {
     let decided = m.constant(deciding_value(operation));
     if from >= literals.len() {
@@ -209,12 +206,9 @@ fn join_below(
     requires remembers { Remembers tables.old.found m.old operation literals.now }
     requires table { IsTable m.old }
     ensures ok { IfOk result (λ r. JoinsFrom m.old m.new operation at node from literals.now r) }
-    ensures kept { Extends m.old m.new }
-    ensures grown { GrowsBelow m.old m.new at }
-    ensures knows { Knows tables.new.recent m.new }
+    ensures step { IsStepAt m.old m.new tables.new.recent at }
     ensures remembers { Remembers tables.new.found m.new operation literals.now }
     ensures rule { IfErr result (λ e. KeepsRule m.new e) }
-    ensures table { IsTable m.new }
 {
     let lower = lower_right(m, at, node, literals, from);
     let shared = is_shared(m, lower, node);
@@ -259,12 +253,9 @@ fn join_at(
     requires remembers { Remembers tables.old.found m.old operation literals.now }
     requires table { IsTable m.old }
     ensures ok { IfOk result (λ r. JoinsFrom m.old m.new operation at node from literals.now r) }
-    ensures kept { Extends m.old m.new }
-    ensures grown { GrowsBelow m.old m.new at }
-    ensures knows { Knows tables.new.recent m.new }
+    ensures step { IsStepAt m.old m.new tables.new.recent at }
     ensures remembers { Remembers tables.new.found m.new operation literals.now }
     ensures rule { IfErr result (λ e. KeepsRule m.new e) }
-    ensures table { IsTable m.new }
 {
     let Some(found) = halves_at(m, at, node, literals, from) else {
         let recent = &mut tables.recent;
@@ -301,12 +292,9 @@ fn join_halves(
     requires table { IsTable m.old }
     ensures ok { IfOk result (λ r. JoinsHalves m.old m.new operation split.now.right
         split.now.variable halves.now.0 halves.now.1 from literals.now r) }
-    ensures kept { Extends m.old m.new }
-    ensures grown { GrowsBelow m.old m.new split.now.right }
-    ensures knows { Knows tables.new.recent m.new }
+    ensures step { IsStepAt m.old m.new tables.new.recent split.now.right }
     ensures remembers { Remembers tables.new.found m.new operation literals.now }
     ensures rule { IfErr result (λ e. KeepsRule m.new e) }
-    ensures table { IsTable m.new }
 {
     let (_, literal) = literal_at(literals, from);
     let right = split.right;
@@ -345,11 +333,8 @@ fn join_by_node(
     requires knows { Knows recent.old m.old }
     requires table { IsTable m.old }
     ensures ok { IfOk result (λ r. JoinsFrom m.old m.new operation at node from literals.now r) }
-    ensures kept { Extends m.old m.new }
-    ensures grown { GrowsBelow m.old m.new at }
-    ensures knows { Knows recent.new m.new }
+    ensures step { IsStepAt m.old m.new recent.new at }
     ensures rule { IfErr result (λ e. KeepsRule m.new e) }
-    ensures table { IsTable m.new }
 {
     let group = literals_node(m, recent, operation, at, literals, from)?;
     apply(m, recent, operation, at, node, group)
@@ -371,11 +356,8 @@ fn literals_node(
     requires knows { Knows recent.old m.old }
     requires table { IsTable m.old }
     ensures ok { IfOk result (λ r. IsGroupNode m.new operation at from literals.now r) }
-    ensures kept { Extends m.old m.new }
-    ensures grown { GrowsBelow m.old m.new at }
-    ensures knows { Knows recent.new m.new }
+    ensures step { IsStepAt m.old m.new recent.new at }
     ensures rule { IfErr result (λ e. KeepsRule m.new e) }
-    ensures table { IsTable m.new }
 {
     let mut node = m.constant(deciding_value(operation));
     let mut index = literals.len();

@@ -5,9 +5,10 @@
 // the call (`find_or_negate`); at the top it is asked in the call, so that the connectives' own calls stay short.
 ghost use Rattle.std.specs.Prelude.{◌≤◌, IfOk, IfErr, OnErr};
 ghost use Rattle.sd_manager.specs.Valid.{IsTable};
-ghost use Rattle.sd_manager.specs.Making.{Extends, KeepsRule};
+ghost use Rattle.sd_manager.specs.Making.{KeepsRule};
 ghost use Rattle.sd_apply.specs.Recent.{Knows};
-ghost use Rattle.sd_apply.specs.Growing.{GrowsBelow, GrowsBelowEither, GrowsByAnswer, GrowsStrictlyBelow};
+ghost use Rattle.sd_apply.specs.Steps.{IsStep, IsStepAt};
+ghost use Rattle.sd_apply.specs.Growing.{GrowsByAnswer, GrowsStrictlyBelow};
 ghost use Rattle.sd_apply.specs.Places.{IsBelow, IsThere, IsFork};
 ghost use Rattle.sd_apply.specs.Elements.{AreListedElements};
 ghost use Rattle.sd_apply.specs.Calls.{NegatesAt, NegatesSubs};
@@ -34,13 +35,10 @@ pub(crate) fn negate_at(
     requires a { IsBelow m.old at a }
     requires knows { Knows recent.old m.old }
     ensures ok { IfOk result (λ r. NegatesAt m.old m.new at a r) }
-    ensures kept { Extends m.old m.new }
-    ensures grown { GrowsBelow m.old m.new at }
+    ensures step { IsStepAt m.old m.new recent.new at }
     ensures one { IfOk result (λ r. GrowsByAnswer m.old m.new at r) }
     ensures none { OnErr result (GrowsStrictlyBelow m.old m.new at) }
-    ensures knows { Knows recent.new m.new }
     ensures rule { IfErr result (λ e. KeepsRule m.new e) }
-    ensures table { IsTable m.new }
 {
     find_or_negate(m, recent, at, a)
 }
@@ -58,13 +56,10 @@ fn find_or_negate(
     requires a { IsBelow m.old at a }
     requires knows { Knows recent.old m.old }
     ensures ok { IfOk result (λ r. NegatesAt m.old m.new at a r) }
-    ensures kept { Extends m.old m.new }
-    ensures grown { GrowsBelow m.old m.new at }
+    ensures step { IsStepAt m.old m.new recent.new at }
     ensures one { IfOk result (λ r. GrowsByAnswer m.old m.new at r) }
     ensures none { OnErr result (GrowsStrictlyBelow m.old m.new at) }
-    ensures knows { Knows recent.new m.new }
     ensures rule { IfErr result (λ e. KeepsRule m.new e) }
-    ensures table { IsTable m.new }
 {
     // its contract tells that the table is valid
     let _ = m.vtree();
@@ -91,13 +86,10 @@ fn negate_anew(
     requires code { 2050 ≤ a }
     requires knows { Knows recent.old m.old }
     ensures ok { IfOk result (λ r. NegatesAt m.old m.new at a r) }
-    ensures kept { Extends m.old m.new }
-    ensures grown { GrowsBelow m.old m.new at }
+    ensures step { IsStepAt m.old m.new recent.new at }
     ensures one { IfOk result (λ r. GrowsByAnswer m.old m.new at r) }
     ensures none { OnErr result (GrowsStrictlyBelow m.old m.new at) }
-    ensures knows { Knows recent.new m.new }
     ensures rule { IfErr result (λ e. KeepsRule m.new e) }
-    ensures table { IsTable m.new }
 {
     let code = negate_elements(m, recent, at, a)?;
     recent.keep(NEGATION, a.0, 0, code.0);
@@ -118,13 +110,10 @@ fn negate_elements(
     requires code { 2050 ≤ a }
     requires knows { Knows recent.old m.old }
     ensures ok { IfOk result (λ r. NegatesAt m.old m.new at a r) }
-    ensures kept { Extends m.old m.new }
-    ensures grown { GrowsBelow m.old m.new at }
+    ensures step { IsStepAt m.old m.new recent.new at }
     ensures one { IfOk result (λ r. GrowsByAnswer m.old m.new at r) }
     ensures none { OnErr result (GrowsStrictlyBelow m.old m.new at) }
-    ensures knows { Knows recent.new m.new }
     ensures rule { IfErr result (λ e. KeepsRule m.new e) }
-    ensures table { IsTable m.new }
 {
     let fork = place_with_children(m, at, a);
     if are_two(m, a) {
@@ -154,11 +143,8 @@ fn negate_both(
     requires knows { Knows recent.old m.old }
     ensures first { IfOk result (λ r. NegatesAt m.old m.new at a r.0) }
     ensures second { IfOk result (λ r. NegatesAt m.old m.new at b r.1) }
-    ensures kept { Extends m.old m.new }
-    ensures grown { GrowsBelow m.old m.new at }
-    ensures knows { Knows recent.new m.new }
+    ensures step { IsStepAt m.old m.new recent.new at }
     ensures rule { IfErr result (λ e. KeepsRule m.new e) }
-    ensures table { IsTable m.new }
 {
     let first = find_or_negate(m, recent, at, a)?;
     let second = find_or_negate(m, recent, at, b)?;
@@ -179,11 +165,8 @@ fn negate_subs(
     requires table { IsTable m.old }
     ensures ok { IfOk result
         (λ r. NegatesSubs m.old m.new fork.now.right list.now r.items) }
-    ensures kept { Extends m.old m.new }
-    ensures grown { GrowsBelowEither m.old m.new fork.now.left fork.now.right }
-    ensures knows { Knows recent.new m.new }
+    ensures step { IsStep m.old m.new recent.new fork.now.left fork.now.right }
     ensures rule { IfErr result (λ e. KeepsRule m.new e) }
-    ensures table { IsTable m.new }
 {
     let mut pairs = SmallVec::new(recent.alloc);
     for i in 0..list.len() {

@@ -5,9 +5,9 @@
 // with a negative sign costs no node of its own on a right-linear vtree, and no more than its negation on others.
 ghost use Rattle.std.specs.Prelude.{◌≡◌, ◌≤◌, ◌/◌, IfOk, IfErr};
 ghost use Rattle.sd_manager.specs.Valid.{IsTable};
-ghost use Rattle.sd_manager.specs.Making.{Extends, KeepsRule};
+ghost use Rattle.sd_manager.specs.Making.{KeepsRule};
 ghost use Rattle.sd_apply.specs.Recent.{Knows};
-ghost use Rattle.sd_apply.specs.Growing.{GrowsBelow};
+ghost use Rattle.sd_apply.specs.Steps.{IsStepAt};
 ghost use Rattle.sd_apply.specs.Places.{IsBelow, IsThere};
 ghost use Rattle.sd_apply.specs.Halves.{AreHalvesOf};
 ghost use Rattle.sd_apply.specs.Difference.{SubtractsAt, SubtractsHalves, known_difference};
@@ -59,11 +59,8 @@ pub(crate) fn subtract_at(
     requires b { IsBelow m.old at b }
     requires knows { Knows recent.old m.old }
     ensures ok { IfOk result (λ r. SubtractsAt m.old m.new at a b r) }
-    ensures kept { Extends m.old m.new }
-    ensures grown { GrowsBelow m.old m.new at }
-    ensures knows { Knows recent.new m.new }
+    ensures step { IsStepAt m.old m.new recent.new at }
     ensures rule { IfErr result (λ e. KeepsRule m.new e) }
-    ensures table { IsTable m.new }
 {
     find_or_subtract(m, recent, at, a, b)
 }
@@ -83,11 +80,8 @@ fn find_or_subtract(
     requires b { IsBelow m.old at b }
     requires knows { Knows recent.old m.old }
     ensures ok { IfOk result (λ r. SubtractsAt m.old m.new at a b r) }
-    ensures kept { Extends m.old m.new }
-    ensures grown { GrowsBelow m.old m.new at }
-    ensures knows { Knows recent.new m.new }
+    ensures step { IsStepAt m.old m.new recent.new at }
     ensures rule { IfErr result (λ e. KeepsRule m.new e) }
-    ensures table { IsTable m.new }
 {
     // its contract tells that the table is valid
     let _ = m.vtree();
@@ -121,11 +115,8 @@ fn subtract_anew(
     requires differ { a / 2 ≡ b / 2 → 2050 ≤ a }
     requires knows { Knows recent.old m.old }
     ensures ok { IfOk result (λ r. SubtractsAt m.old m.new at a b r) }
-    ensures kept { Extends m.old m.new }
-    ensures grown { GrowsBelow m.old m.new at }
-    ensures knows { Knows recent.new m.new }
+    ensures step { IsStepAt m.old m.new recent.new at }
     ensures rule { IfErr result (λ e. KeepsRule m.new e) }
-    ensures table { IsTable m.new }
 {
     let code = subtract_at_lca(m, recent, at, a, b)?;
     recent.keep(DIFFERENCE, a.0, b.0, code.0);
@@ -151,11 +142,8 @@ fn subtract_at_lca(
     requires differ { a / 2 ≡ b / 2 → 2050 ≤ a }
     requires knows { Knows recent.old m.old }
     ensures ok { IfOk result (λ r. SubtractsAt m.old m.new at a b r) }
-    ensures kept { Extends m.old m.new }
-    ensures grown { GrowsBelow m.old m.new at }
-    ensures knows { Knows recent.new m.new }
+    ensures step { IsStepAt m.old m.new recent.new at }
     ensures rule { IfErr result (λ e. KeepsRule m.new e) }
-    ensures table { IsTable m.new }
 {
     let fork = lca_with_children(m, at, a, b);
     if let Some(found) = both_halves(m, &fork, a, b) {
@@ -178,11 +166,8 @@ fn and_negation(
     requires b { IsBelow m.old at b }
     requires knows { Knows recent.old m.old }
     ensures ok { IfOk result (λ r. SubtractsAt m.old m.new at a b r) }
-    ensures kept { Extends m.old m.new }
-    ensures grown { GrowsBelow m.old m.new at }
-    ensures knows { Knows recent.new m.new }
+    ensures step { IsStepAt m.old m.new recent.new at }
     ensures rule { IfErr result (λ e. KeepsRule m.new e) }
-    ensures table { IsTable m.new }
 {
     let other = negate_at(m, recent, at, b)?;
     apply(m, recent, Operation::And, at, a, other)
@@ -201,11 +186,8 @@ fn subtract_by_halves(
     requires knows { Knows recent.old m.old }
     requires table { IsTable m.old }
     ensures ok { IfOk result (λ r. SubtractsAt m.old m.new found.now.node a b r) }
-    ensures kept { Extends m.old m.new }
-    ensures grown { GrowsBelow m.old m.new found.now.node }
-    ensures knows { Knows recent.new m.new }
+    ensures step { IsStepAt m.old m.new recent.new found.now.node }
     ensures rule { IfErr result (λ e. KeepsRule m.new e) }
-    ensures table { IsTable m.new }
 {
     let right = found.split.right;
     let (first, second) = (&found.first, &found.second);
@@ -233,11 +215,8 @@ fn subtract_halves(
     requires other_second { IsBelow m.old right second.now.1 }
     requires knows { Knows recent.old m.old }
     ensures ok { IfOk result (λ r. SubtractsHalves m.old m.new right first.now second.now r) }
-    ensures kept { Extends m.old m.new }
-    ensures grown { GrowsBelow m.old m.new right }
-    ensures knows { Knows recent.new m.new }
+    ensures step { IsStepAt m.old m.new recent.new right }
     ensures rule { IfErr result (λ e. KeepsRule m.new e) }
-    ensures table { IsTable m.new }
 {
     let high = find_or_subtract(m, recent, right, first.0, second.0)?;
     let low = find_or_subtract(m, recent, right, first.1, second.1)?;

@@ -4,8 +4,9 @@ use Rattle.sd_apply.specs.Calls.{Applies, NegatesAt}
 use Rattle.sd_apply.proofs.TerminalLaws.{terminal_applies, terminal_at, applies_commutes}
 use Rattle.sd_apply.proofs.TerminalLaws.{unknown, xor_negation, xor_negation_second}
 use Rattle.sd_apply.specs.Growing.{GrowsByAnswerBoth}
-use Rattle.sd_apply.proofs.Growing.{both_first, both_second, strictly_first, strictly_second, strictly_exchanged}
+use Rattle.sd_apply.proofs.Growing.{strictly_first, strictly_second, strictly_exchanged}
 use Rattle.sd_apply.proofs.Growing.{by_first, by_second, by_exchanged}
+use Rattle.sd_apply.proofs.CachedSteps.{looked_step, first_step, second_step, exchanged_step}
 use Rattle.sd_apply.proofs.cached.apply_cached.Goals as goal
 
 pub returns-in-Some-clause-ok : goal.returns-in-Some-clause-ok
@@ -15,6 +16,10 @@ returns-in-Some-clause-ok c =
     (terminal_at c.args.operation c.number.result c.args.a c.args.b c.a.inside.0 c.b.inside.0
     (Some c.in-Some.code) c.number.ensures c.a.view_is c.b.view_is c.in-Some.ensures)
 
+pub returns-in-Some-clause-step : goal.returns-in-Some-clause-step
+returns-in-Some-clause-step c =
+    looked_step c.args.a c.args.b c.vtree.ensures.table c.requires.serves
+
 -- the operands may be exchanged
 pub returns-else-a-b-clause-ok : goal.returns-else-a-b-clause-ok
 returns-else-a-b-clause-ok c =
@@ -23,6 +28,10 @@ returns-else-a-b-clause-ok c =
     IfOk-weaker d.result (λ r. Applies m d.new.m c.args.operation c.args.at c.args.b c.args.a r)
     (λ r. Applies m d.new.m c.args.operation c.args.at c.args.a c.args.b r)
     (λ r h. applies_commutes m d.new.m c.args.operation c.args.at c.args.a c.args.b r h) d.ensures.ok
+
+pub returns-else-a-b-clause-step : goal.returns-else-a-b-clause-step
+returns-else-a-b-clause-step c =
+    exchanged_step c.look_up_or_apply-else-a-b.ensures.step
 
 -- the exclusive or with true is the negation
 pub returns-then-is_true-clause-ok : goal.returns-then-is_true-clause-ok
@@ -39,9 +48,9 @@ returns-then-is_true-clause-ok c =
     (u.one one) one h)
     c.negate_cached.ensures.ok
 
-pub returns-then-is_true-clause-grown : goal.returns-then-is_true-clause-grown
-returns-then-is_true-clause-grown c =
-    both_second c.args.m.now c.negate_cached.new.m c.args.a c.args.b c.negate_cached.ensures.grown
+pub returns-then-is_true-clause-step : goal.returns-then-is_true-clause-step
+returns-then-is_true-clause-step c =
+    second_step c.args.a c.negate_cached.ensures.step
 
 pub returns-then-is_true-2-clause-ok : goal.returns-then-is_true-2-clause-ok
 returns-then-is_true-2-clause-ok c =
@@ -57,10 +66,9 @@ returns-then-is_true-2-clause-ok c =
     c.args.a c.args.b r (u.other one) one h)
     d.ensures.ok
 
-pub returns-then-is_true-2-clause-grown : goal.returns-then-is_true-2-clause-grown
-returns-then-is_true-2-clause-grown c =
-    both_first c.args.m.now c.negate_cached-then-is_true-2.new.m c.args.a c.args.b
-    c.negate_cached-then-is_true-2.ensures.grown
+pub returns-then-is_true-2-clause-step : goal.returns-then-is_true-2-clause-step
+returns-then-is_true-2-clause-step c =
+    first_step c.args.b c.negate_cached-then-is_true-2.ensures.step
 
 -- where the nodes but the answer stand
 

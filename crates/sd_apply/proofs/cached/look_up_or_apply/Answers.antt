@@ -4,8 +4,9 @@ use Rattle.sd_manager.proofs.Extending.{extends_self}
 use Rattle.sd_apply.proofs.Served.{serves_on, serves_look, serves_keep, looked_applies, applies_right}
 use Rattle.sd_apply.proofs.Opposite.{opposite_applies}
 use Rattle.sd_apply.proofs.Expanding.{applies_over, below_at}
-use Rattle.sd_apply.proofs.Growing.{both_lowest, strictly_lowest, by_lowest}
+use Rattle.sd_apply.proofs.Growing.{strictly_lowest, by_lowest}
 use Rattle.sd_apply.proofs.Refused.{at_error}
+use Rattle.sd_apply.proofs.CachedSteps.{looked_step, lowest_step}
 use Rattle.sd_apply.proofs.cached.look_up_or_apply.Goals as goal
 
 -- the cache is asked
@@ -17,11 +18,12 @@ returns-in-Some-clause-ok c =
     c.epoch-epoch.ensures.epoch c.a.view_is c.b.view_is c.in-Some.ensures.early
     c.in-Some.ensures.value
 
-pub returns-in-Some-clause-serves : goal.returns-in-Some-clause-serves
-returns-in-Some-clause-serves c =
-    serves_look c.args.c.now c.look.new.self c.args.m.now
+pub returns-in-Some-clause-step : goal.returns-in-Some-clause-step
+returns-in-Some-clause-step c =
+    looked_step c.args.a c.args.b c.epoch-epoch.ensures.table
+    (serves_look c.args.c.now c.look.new.self c.args.m.now
     (call c.epoch-epoch.result c.number-kind.result c.a.inside.0 c.b.inside.0)
-    c.look.ensures.entries c.requires.serves
+    c.look.ensures.entries c.requires.serves)
 
 -- and whether one operand is known to be the negation of the other
 pub are_opposite-requires : goal.are_opposite-requires
@@ -37,28 +39,34 @@ returns-then-are_opposite-clause-ok c =
     c.args.at c.args.a c.args.b c.at_opposites.result
     (c.are_opposite.ensures.opposite c.if-are_opposite.true) c.at_opposites.ensures
 
+pub returns-then-are_opposite-clause-step : goal.returns-then-are_opposite-clause-step
+returns-then-are_opposite-clause-step c =
+    looked_step c.args.a c.args.b c.epoch-epoch.ensures.table c.are_opposite.ensures.serves
+
 -- the operation begins with the table of the cache
 pub apply-found-requires-clause-knows : goal.apply-found-requires-clause-knows
 apply-found-requires-clause-knows c = c.lent-recent.ensures.knows
 
 -- and gives it back, whether it succeeded or not
 pub give_back-requires-clause-knows : goal.give_back-requires-clause-knows
-give_back-requires-clause-knows c = c.apply-found.ensures.knows
+give_back-requires-clause-knows c = c.apply-found.ensures.step.knows
 
 pub give_back-requires-clause-serves : goal.give_back-requires-clause-serves
 give_back-requires-clause-serves c =
     serves_on c.lent-recent.new.c c.args.m.now c.apply-found.new.m
-    c.apply-found.ensures.kept c.lent-recent.ensures.serves
+    c.apply-found.ensures.step.kept c.lent-recent.ensures.serves
 
 -- and the cache keeps its answer
-pub returns-clause-serves : goal.returns-clause-serves
-returns-clause-serves c =
+pub returns-clause-step : goal.returns-clause-step
+returns-clause-step c =
     let m = c.args.m.now in
     let n = c.apply-found.new.m in
-    let x = c.apply-found.ensures.kept in
+    let x = c.apply-found.ensures.step.kept in
     let epoch = c.epoch-epoch.result in
     let kind = c.number-kind.result in
-    serves_keep c.give_back.new.c c.keep.new.self n
+    lowest_step c.lca_with_children-over.result.node c.args.a c.args.b c.epoch-epoch.ensures.table
+    c.lca_with_children-over.ensures.lowest c.apply-found.ensures.step
+    (serves_keep c.give_back.new.c c.keep.new.self n
     (call epoch kind c.a-2.inside.0 c.b-2.inside.0) c.code.inside.0
     c.keep.result c.keep.ensures.keeps c.keep.ensures.err c.keep.ensures.late
     (c.epoch-epoch.ensures.epoch ∙ sym x.epoch)
@@ -68,32 +76,25 @@ returns-clause-serves c =
     c.b-2.view_is c.code.view_is c.requires.a c.requires.b
     (applies_over m n c.args.operation c.args.at c.lca_with_children-over.result.node c.args.a c.args.b
     c.in_ok-code.code
-    c.lca_with_children-over.ensures.first c.lca_with_children-over.ensures.second c.in_ok-code.ensures.ok))
+    c.lca_with_children-over.ensures.first c.lca_with_children-over.ensures.second c.in_ok-code.ensures.ok)))
 
 -- new nodes stand below the lowest vtree node over both
-pub returns-in_err-code-clause-grown : goal.returns-in_err-code-clause-grown
-returns-in_err-code-clause-grown c =
-    both_lowest c.args.m.now c.apply-found.new.m c.apply-found.ensures.kept c.epoch-epoch.ensures.table.numbered
-    c.lca_with_children-over.result.node c.args.a c.args.b
-    c.lca_with_children-over.ensures.lowest c.apply-found.ensures.grown
-
-pub returns-clause-grown : goal.returns-clause-grown
-returns-clause-grown c =
-    both_lowest c.args.m.now c.apply-found.new.m c.apply-found.ensures.kept c.epoch-epoch.ensures.table.numbered
-    c.lca_with_children-over.result.node c.args.a c.args.b
-    c.lca_with_children-over.ensures.lowest c.apply-found.ensures.grown
+pub returns-in_err-code-clause-step : goal.returns-in_err-code-clause-step
+returns-in_err-code-clause-step c =
+    lowest_step c.lca_with_children-over.result.node c.args.a c.args.b c.epoch-epoch.ensures.table
+    c.lca_with_children-over.ensures.lowest c.apply-found.ensures.step c.give_back.ensures
 
 -- and strictly below it, but for the answer
 pub returns-in_err-code-clause-none : goal.returns-in_err-code-clause-none
 returns-in_err-code-clause-none c =
     at_error c.from_residual.result
-    (strictly_lowest c.args.m.now c.apply-found.new.m c.apply-found.ensures.kept
+    (strictly_lowest c.args.m.now c.apply-found.new.m c.apply-found.ensures.step.kept
     c.epoch-epoch.ensures.table.numbered c.lca_with_children-over.result.node c.args.a c.args.b
     c.lca_with_children-over.ensures.lowest c.in_err-code.ensures.none)
 
 pub returns-clause-one : goal.returns-clause-one
 returns-clause-one c =
-    by_lowest c.args.m.now c.apply-found.new.m c.apply-found.ensures.kept c.epoch-epoch.ensures.table.numbered
+    by_lowest c.args.m.now c.apply-found.new.m c.apply-found.ensures.step.kept c.epoch-epoch.ensures.table.numbered
     c.lca_with_children-over.result.node c.args.a c.args.b c.in_ok-code.code
     c.lca_with_children-over.ensures.lowest c.in_ok-code.ensures.one
 

@@ -5,14 +5,19 @@ use Rattle.sd_apply.proofs.TerminalLaws.{opposite_negates}
 use Rattle.sd_apply.proofs.Served.{serves_on, serves_look, looked_negates}
 use Rattle.sd_apply.proofs.Opposite.{negates_opposite, operand_node_of}
 use Rattle.sd_apply.proofs.Expanding.{negates_over, below_at}
-use Rattle.sd_apply.proofs.Growing.{both_lowest, strictly_lowest, by_lowest}
+use Rattle.sd_apply.proofs.Growing.{strictly_lowest, by_lowest}
 use Rattle.sd_apply.proofs.Refused.{at_error}
+use Rattle.sd_apply.proofs.CachedSteps.{looked_step, lowest_step}
 use Rattle.sd_apply.proofs.cached.negate_cached.Goals as goal
 
 pub returns-in-Some-clause-ok : goal.returns-in-Some-clause-ok
 returns-in-Some-clause-ok c =
     opposite_negates c.args.m.now c.epoch-epoch.ensures.table c.args.at c.args.a c.in-Some.code
     (sym (c.in-Some.ensures ∙ ap opposite_of c.a.view_is))
+
+pub returns-in-Some-clause-step : goal.returns-in-Some-clause-step
+returns-in-Some-clause-step c =
+    looked_step c.args.a c.args.a c.epoch-epoch.ensures.table c.requires.serves
 
 -- the cache is asked
 pub returns-in-Some-look-clause-ok : goal.returns-in-Some-look-clause-ok
@@ -22,10 +27,11 @@ returns-in-Some-look-clause-ok c =
     c.epoch-epoch.ensures.epoch c.a.view_is c.in-Some-look.ensures.early
     c.in-Some-look.ensures.value
 
-pub returns-in-Some-look-clause-serves : goal.returns-in-Some-look-clause-serves
-returns-in-Some-look-clause-serves c =
-    serves_look c.args.c.now c.look.new.self c.args.m.now
-    (call c.epoch-epoch.result 3 c.a.inside.0 0) c.look.ensures.entries c.requires.serves
+pub returns-in-Some-look-clause-step : goal.returns-in-Some-look-clause-step
+returns-in-Some-look-clause-step c =
+    looked_step c.args.a c.args.a c.epoch-epoch.ensures.table
+    (serves_look c.args.c.now c.look.new.self c.args.m.now
+    (call c.epoch-epoch.result 3 c.a.inside.0 0) c.look.ensures.entries c.requires.serves)
 
 -- the operation begins with the table of the cache
 pub negate_at-found-requires-clause-knows : goal.negate_at-found-requires-clause-knows
@@ -39,47 +45,47 @@ lent-recent-requires c =
 -- and gives it back, whether it succeeded or not
 pub give_back-requires-clause-serves : goal.give_back-requires-clause-serves
 give_back-requires-clause-serves c =
-    serves_on c.lent-recent.new.c c.args.m.now c.negate_at-found.new.m c.negate_at-found.ensures.kept
+    serves_on c.lent-recent.new.c c.args.m.now c.negate_at-found.new.m c.negate_at-found.ensures.step.kept
     c.lent-recent.ensures.serves
 
 -- and the cache keeps its answer, both ways round
 pub keep_opposites-requires-clause-first : goal.keep_opposites-requires-clause-first
 keep_opposites-requires-clause-first c =
-    operand_node_of c.args.m.now c.negate_at-found.new.m c.negate_at-found.ensures.kept c.args.at c.args.a
+    operand_node_of c.args.m.now c.negate_at-found.new.m c.negate_at-found.ensures.step.kept c.args.at c.args.a
     c.requires.a
 
 pub keep_opposites-requires-clause-opposite : goal.keep_opposites-requires-clause-opposite
 keep_opposites-requires-clause-opposite c =
-    negates_opposite c.args.m.now c.negate_at-found.new.m c.negate_at-found.ensures.table
-    c.negate_at-found.ensures.kept c.args.at c.args.a c.in_ok-code.code
+    negates_opposite c.args.m.now c.negate_at-found.new.m c.negate_at-found.ensures.step.table
+    c.negate_at-found.ensures.step.kept c.args.at c.args.a c.in_ok-code.code
     (negates_over c.args.m.now c.negate_at-found.new.m c.args.at c.place_with_children-over.result.node c.args.a
     c.in_ok-code.code c.place_with_children-over.ensures.node c.in_ok-code.ensures.ok)
     c.requires.a
 
 -- new nodes stand below the node's own vtree node
-pub returns-in_err-code-clause-grown : goal.returns-in_err-code-clause-grown
-returns-in_err-code-clause-grown c =
-    both_lowest c.args.m.now c.negate_at-found.new.m c.negate_at-found.ensures.kept c.epoch-epoch.ensures.table.numbered
-    c.place_with_children-over.result.node c.args.a c.args.a
-    (λ n there x y. c.place_with_children-over.ensures.lowest n there x) c.negate_at-found.ensures.grown
+pub returns-in_err-code-clause-step : goal.returns-in_err-code-clause-step
+returns-in_err-code-clause-step c =
+    lowest_step c.place_with_children-over.result.node c.args.a c.args.a c.epoch-epoch.ensures.table
+    (λ n there x y. c.place_with_children-over.ensures.lowest n there x) c.negate_at-found.ensures.step
+    c.give_back.ensures
 
-pub returns-clause-grown : goal.returns-clause-grown
-returns-clause-grown c =
-    both_lowest c.args.m.now c.negate_at-found.new.m c.negate_at-found.ensures.kept c.epoch-epoch.ensures.table.numbered
-    c.place_with_children-over.result.node c.args.a c.args.a
-    (λ n there x y. c.place_with_children-over.ensures.lowest n there x) c.negate_at-found.ensures.grown
+pub returns-clause-step : goal.returns-clause-step
+returns-clause-step c =
+    lowest_step c.place_with_children-over.result.node c.args.a c.args.a c.epoch-epoch.ensures.table
+    (λ n there x y. c.place_with_children-over.ensures.lowest n there x) c.negate_at-found.ensures.step
+    c.keep_opposites.ensures.serves
 
 -- and strictly below it, but for the answer
 pub returns-in_err-code-clause-none : goal.returns-in_err-code-clause-none
 returns-in_err-code-clause-none c =
     at_error c.from_residual.result
-    (strictly_lowest c.args.m.now c.negate_at-found.new.m c.negate_at-found.ensures.kept
+    (strictly_lowest c.args.m.now c.negate_at-found.new.m c.negate_at-found.ensures.step.kept
     c.epoch-epoch.ensures.table.numbered c.place_with_children-over.result.node c.args.a c.args.a
     (λ n there x y. c.place_with_children-over.ensures.lowest n there x) c.in_err-code.ensures.none)
 
 pub returns-clause-one : goal.returns-clause-one
 returns-clause-one c =
-    by_lowest c.args.m.now c.negate_at-found.new.m c.negate_at-found.ensures.kept
+    by_lowest c.args.m.now c.negate_at-found.new.m c.negate_at-found.ensures.step.kept
     c.epoch-epoch.ensures.table.numbered c.place_with_children-over.result.node c.args.a c.args.a c.in_ok-code.code
     (λ n there x y. c.place_with_children-over.ensures.lowest n there x) c.in_ok-code.ensures.one
 

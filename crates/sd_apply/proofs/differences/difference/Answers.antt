@@ -31,6 +31,6 @@ returns-clause-ok c =
     let root = c.root-root.result in
     IfOk-weaker c.subtract_cached.result (λ r. SubtractsAt old new root c.args.a c.args.b r)
     (λ r. Subtracts old new c.args.a c.args.b r)
-    (λ r h. subtracts old new c.subtract_cached.ensures.table root c.args.a c.args.b r
+    (λ r h. subtracts old new c.subtract_cached.ensures.step.table root c.args.a c.args.b r
     (c.root-root.ensures.root ∙ ap number_of c.vtree.ensures.vtree) h)
     c.subtract_cached.ensures.ok

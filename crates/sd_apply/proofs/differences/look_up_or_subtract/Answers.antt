@@ -2,8 +2,8 @@ use Rattle.std.proofs.Common.{◌∙◌, sym}
 use Rattle.sd_cache.specs.Entries.{call}
 use Rattle.sd_apply.proofs.Served.{serves_on, serves_look, serves_keep}
 use Rattle.sd_apply.proofs.Expanding.{below_at}
-use Rattle.sd_apply.proofs.Growing.{both_lowest}
 use Rattle.sd_apply.proofs.AndNot.{looked_subtracts, subtracts_right, subtracts_over}
+use Rattle.sd_apply.proofs.CachedSteps.{looked_step, lowest_step}
 use Rattle.sd_apply.proofs.differences.look_up_or_subtract.Goals as goal
 
 -- the cache is asked
@@ -13,10 +13,11 @@ returns-in-Some-clause-ok c =
     c.b.inside.0 c.in-Some.code c.epoch-epoch.ensures.table c.requires.serves c.epoch-epoch.ensures.epoch
     c.a.view_is c.b.view_is c.in-Some.ensures.early c.in-Some.ensures.value
 
-pub returns-in-Some-clause-serves : goal.returns-in-Some-clause-serves
-returns-in-Some-clause-serves c =
-    serves_look c.args.c.now c.look.new.self c.args.m.now
-    (call c.epoch-epoch.result 6 c.a.inside.0 c.b.inside.0) c.look.ensures.entries c.requires.serves
+pub returns-in-Some-clause-step : goal.returns-in-Some-clause-step
+returns-in-Some-clause-step c =
+    looked_step c.args.a c.args.b c.epoch-epoch.ensures.table
+    (serves_look c.args.c.now c.look.new.self c.args.m.now
+    (call c.epoch-epoch.result 6 c.a.inside.0 c.b.inside.0) c.look.ensures.entries c.requires.serves)
 
 -- the difference begins with the table of the cache
 pub lent-recent-requires : goal.lent-recent-requires
@@ -41,16 +42,18 @@ subtract_at-found-requires-clause-b c =
 pub give_back-requires-clause-serves : goal.give_back-requires-clause-serves
 give_back-requires-clause-serves c =
     serves_on c.lent-recent.new.c c.args.m.now c.subtract_at-found.new.m
-    c.subtract_at-found.ensures.kept c.lent-recent.ensures.serves
+    c.subtract_at-found.ensures.step.kept c.lent-recent.ensures.serves
 
 -- and the cache keeps its answer
-pub returns-clause-serves : goal.returns-clause-serves
-returns-clause-serves c =
+pub returns-clause-step : goal.returns-clause-step
+returns-clause-step c =
     let m = c.args.m.now in
     let n = c.subtract_at-found.new.m in
-    let x = c.subtract_at-found.ensures.kept in
+    let x = c.subtract_at-found.ensures.step.kept in
     let epoch = c.epoch-epoch.result in
-    serves_keep c.give_back.new.c c.keep.new.self n
+    lowest_step c.lca_with_children-over.result.node c.args.a c.args.b c.epoch-epoch.ensures.table
+    c.lca_with_children-over.ensures.lowest c.subtract_at-found.ensures.step
+    (serves_keep c.give_back.new.c c.keep.new.self n
     (call epoch 6 c.a-2.inside.0 c.b-2.inside.0) c.code.inside.0
     c.keep.result c.keep.ensures.keeps c.keep.ensures.err c.keep.ensures.late
     (c.epoch-epoch.ensures.epoch ∙ sym x.epoch)
@@ -58,20 +61,13 @@ returns-clause-serves c =
     (subtracts_right m n epoch c.args.at c.args.a c.args.b c.in_ok-code.code c.a-2.inside.0 c.b-2.inside.0
     c.code.inside.0 x c.a-2.view_is c.b-2.view_is c.code.view_is c.requires.a c.requires.b
     (subtracts_over m n c.args.at c.lca_with_children-over.result.node c.args.a c.args.b c.in_ok-code.code
-    c.lca_with_children-over.ensures.first c.lca_with_children-over.ensures.second c.in_ok-code.ensures.ok))
+    c.lca_with_children-over.ensures.first c.lca_with_children-over.ensures.second c.in_ok-code.ensures.ok)))
 
 -- new nodes stand below the lowest vtree node over both
-pub returns-in_err-code-clause-grown : goal.returns-in_err-code-clause-grown
-returns-in_err-code-clause-grown c =
-    both_lowest c.args.m.now c.subtract_at-found.new.m c.subtract_at-found.ensures.kept
-    c.epoch-epoch.ensures.table.numbered c.lca_with_children-over.result.node c.args.a c.args.b
-    c.lca_with_children-over.ensures.lowest c.subtract_at-found.ensures.grown
-
-pub returns-clause-grown : goal.returns-clause-grown
-returns-clause-grown c =
-    both_lowest c.args.m.now c.subtract_at-found.new.m c.subtract_at-found.ensures.kept
-    c.epoch-epoch.ensures.table.numbered c.lca_with_children-over.result.node c.args.a c.args.b
-    c.lca_with_children-over.ensures.lowest c.subtract_at-found.ensures.grown
+pub returns-in_err-code-clause-step : goal.returns-in_err-code-clause-step
+returns-in_err-code-clause-step c =
+    lowest_step c.lca_with_children-over.result.node c.args.a c.args.b c.epoch-epoch.ensures.table
+    c.lca_with_children-over.ensures.lowest c.subtract_at-found.ensures.step c.give_back.ensures
 
 pub returns-clause-ok : goal.returns-clause-ok
 returns-clause-ok c =

@@ -7,6 +7,7 @@ use Rattle.sd_apply.specs.Places.{HasPlace}
 use Rattle.sd_apply.specs.Calls.{Expands}
 use Rattle.sd_apply.proofs.Trees.{left_there, place_before}
 use Rattle.sd_apply.proofs.Standing.{shown}
+use Rattle.sd_apply.proofs.Steps.{left_step}
 use Rattle.sd_apply.proofs.Expanding.{own_code, expand_own, expand_right, expand_left}
 use Rattle.sd_apply.proofs.Expanding.{right_under, left_under}
 use Rattle.sd_apply.proofs.expansion.expand.Goals as goal
@@ -107,7 +108,7 @@ returns-clause-ok c =
     let E : List (ℕ × ℕ) → Type 0 = λ l. Expands m n c.args.fork.now.node c.args.fork.now.left c.args.fork.now.right
     c.args.a l in
     let list : List (ℕ × ℕ) = (c.args.a, 1) ∷ (c.in_ok-other.other, 0) ∷ [] in
-    let h : E list = expand_left m n i c.negate_at.ensures.kept c.args.fork.now.node c.args.fork.now.left
+    let h : E list = expand_left m n i c.negate_at.ensures.step.kept c.args.fork.now.node c.args.fork.now.left
     c.args.fork.now.right c.args.a
     c.in_ok-other.other c.requires.least
     (λ x k. left_under m i c.args.fork.now.node c.args.fork.now.left c.args.fork.now.right c.place_of-own.result
@@ -118,3 +119,11 @@ returns-clause-ok c =
     IfOk-weaker c.below_left.result (λ r. r.items ≡ list) (λ r. E r.items) (λ r e. subst E (sym e)
     h)
     c.below_left.ensures.ok
+
+-- what is left
+
+pub returns-in_err-other-clause-step : goal.returns-in_err-other-clause-step
+returns-in_err-other-clause-step c = left_step c.args.fork.now.right c.negate_at.ensures.step
+
+pub returns-clause-step : goal.returns-clause-step
+returns-clause-step c = left_step c.args.fork.now.right c.negate_at.ensures.step

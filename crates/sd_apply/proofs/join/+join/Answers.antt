@@ -9,11 +9,9 @@ use Rattle.sd_apply.specs.Places.{width}
 use Rattle.sd_apply.specs.Halves.{IsSplit, MakesHalves}
 use Rattle.sd_apply.specs.GroupCalls.{JoinsFrom, IsFoundBefore, deciding}
 use Rattle.sd_apply.proofs.Listed.{below_on, there_on, width_on}
-use Rattle.sd_manager.proofs.Extending.{extends_on}
-use Rattle.sd_apply.proofs.RightEntries.{knows_on}
-use Rattle.sd_apply.proofs.Growing.{grows_both}
+use Rattle.sd_apply.proofs.Steps.{at_on, at_made, right_step, step_over, at_wider}
 use Rattle.sd_apply.proofs.JoiningPlaces.{literals_on, right_narrower}
-use Rattle.sd_apply.proofs.JoiningSteps.{remembers_on, grows_up, grows_lower}
+use Rattle.sd_apply.proofs.JoiningSteps.{remembers_on}
 use Rattle.sd_apply.proofs.JoiningSteps.{joins_decided, joins_over, joins_found, found_joined}
 use Rattle.sd_apply.proofs.JoiningSteps.{first_half, second_half, first_joined, second_joined, joins_made, joins_same}
 use Rattle.sd_apply.proofs.JoiningSteps.{joins_both, joins_first, joins_second}
@@ -24,7 +22,8 @@ use Rattle.sd_apply.proofs.join.+join.Goals as goal
 
 pub join_at-returns-in_default-clause-remembers : goal.join_at-returns-in_default-clause-remembers
 join_at-returns-in_default-clause-remembers t c =
-    remembers_on c.args.tables.now.found c.args.m.now c.join_by_node.new.m c.join_by_node.ensures.kept c.args.operation
+    remembers_on c.args.tables.now.found c.args.m.now c.join_by_node.new.m c.join_by_node.ensures.step.kept
+    c.args.operation
     c.args.literals.now c.requires.remembers
 
 pub join_at-join_halves-requires : goal.join_at-join_halves-requires
@@ -65,33 +64,30 @@ join_at-join_halves-requires t c =
       ),
     )
 
-pub join_at-returns-in_err-joined-clause-grown : goal.join_at-returns-in_err-joined-clause-grown
-join_at-returns-in_err-joined-clause-grown t c =
+pub join_at-returns-in_err-joined-clause-step : goal.join_at-returns-in_err-joined-clause-step
+join_at-returns-in_err-joined-clause-step t c =
     let f = c.in-Some.found.0 in
-    grows_up c.args.m.now c.join_halves.new.m c.join_halves.ensures.kept c.requires.table.numbered c.args.at f.left
-    f.right
-    c.in-Some.ensures.split.children c.join_halves.ensures.grown
+    step_over c.args.at f.left f.right c.in-Some.ensures.split.children (right_step f.left c.join_halves.ensures.step)
 
 pub join_at-returns-then-is_same-2-clause-ok :
     goal.join_at-returns-then-is_same-2-clause-ok
 join_at-returns-then-is_same-2-clause-ok t c =
     let f = c.in-Some.found.0 in
-    joins_same c.args.m.now c.join_halves.new.m c.join_halves.ensures.table c.join_halves.ensures.kept c.args.operation
+    joins_same c.args.m.now c.join_halves.new.m c.join_halves.ensures.step.table c.join_halves.ensures.step.kept
+    c.args.operation
     c.args.at f.right f.variable c.args.node c.args.from c.args.literals.now c.in-Some.found.1 c.in_ok-joined.joined
     c.in-Some.ensures.halves c.in_ok-joined.ensures.ok (c.is_same.ensures c.if-is_same.true)
     (c.is_same-then-is_same.ensures c.if-is_same-2.true)
 
-pub join_at-returns-then-is_same-2-clause-grown :
-    goal.join_at-returns-then-is_same-2-clause-grown
-join_at-returns-then-is_same-2-clause-grown t c =
+pub join_at-returns-then-is_same-2-clause-step : goal.join_at-returns-then-is_same-2-clause-step
+join_at-returns-then-is_same-2-clause-step t c =
     let f = c.in-Some.found.0 in
-    grows_up c.args.m.now c.join_halves.new.m c.join_halves.ensures.kept c.requires.table.numbered c.args.at f.left
-    f.right
-    c.in-Some.ensures.split.children c.join_halves.ensures.grown
+    step_over c.args.at f.left f.right c.in-Some.ensures.split.children (right_step f.left c.join_halves.ensures.step)
 
 pub join_at-make_halves-requires-clause-split : goal.join_at-make_halves-requires-clause-split
 join_at-make_halves-requires-clause-split t c =
-    subst (λ v. IsSplit v c.args.at c.in-Some.found.0) (sym c.join_halves.ensures.kept.vtree) c.in-Some.ensures.split
+    subst (λ v. IsSplit v c.args.at c.in-Some.found.0) (sym c.join_halves.ensures.step.kept.vtree)
+    c.in-Some.ensures.split
 
 pub join_at-make_halves-requires-clause-first : goal.join_at-make_halves-requires-clause-first
 join_at-make_halves-requires-clause-first t c =
@@ -120,23 +116,13 @@ join_at-returns-clause-ok t c =
     c.in-Some.found.1 r c.in-Some.ensures.halves c.in_ok-joined.ensures.ok h)
     c.make_halves.ensures.ok
 
-pub join_at-returns-clause-kept : goal.join_at-returns-clause-kept
-join_at-returns-clause-kept t c =
-    extends_on c.args.m.now c.join_halves.new.m c.make_halves.new.m c.join_halves.ensures.kept
-    c.make_halves.ensures.kept
-
-pub join_at-returns-clause-grown : goal.join_at-returns-clause-grown
-join_at-returns-clause-grown t c =
+pub join_at-returns-clause-step : goal.join_at-returns-clause-step
+join_at-returns-clause-step t c =
     let f = c.in-Some.found.0 in
-    grows_both c.args.m.now c.join_halves.new.m c.make_halves.new.m c.args.at c.make_halves.ensures.kept
-    (grows_up c.args.m.now c.join_halves.new.m c.join_halves.ensures.kept c.requires.table.numbered c.args.at f.left
-    f.right
-    c.in-Some.ensures.split.children c.join_halves.ensures.grown) c.make_halves.ensures.grown
-
-pub join_at-returns-clause-knows : goal.join_at-returns-clause-knows
-join_at-returns-clause-knows t c =
-    knows_on c.join_halves.new.tables.recent c.join_halves.new.m c.make_halves.new.m c.make_halves.ensures.kept
-    c.join_halves.ensures.knows
+    let made = c.make_halves.ensures in
+    at_made
+    (step_over c.args.at f.left f.right c.in-Some.ensures.split.children (right_step f.left c.join_halves.ensures.step))
+    made.kept made.grown made.table
 
 pub join_at-returns-clause-remembers : goal.join_at-returns-clause-remembers
 join_at-returns-clause-remembers t c =
@@ -163,10 +149,9 @@ join_from-returns-in-Some-clause-ok t c =
     (subst (λ n. IsFoundBefore m o l n (c.args.from + 1) c.in-Some.code) c.node-2.view_is
     (c.in-Some.ensures.right m o l c.requires.remembers))
 
-pub join_below-returns-in_err-code-clause-grown : goal.join_below-returns-in_err-code-clause-grown
-join_below-returns-in_err-code-clause-grown t c =
-    grows_lower c.args.m.now c.join_at.new.m c.join_at.ensures.kept c.requires.table.numbered c.lower_right-lower.result
-    c.args.at c.lower_right-lower.ensures.under c.join_at.ensures.grown
+pub join_below-returns-in_err-code-clause-step : goal.join_below-returns-in_err-code-clause-step
+join_below-returns-in_err-code-clause-step t c =
+    at_wider c.lower_right-lower.ensures.under c.join_at.ensures.step
 
 pub join_below-returns-then-not-shared-clause-ok : goal.join_below-returns-then-not-shared-clause-ok
 join_below-returns-then-not-shared-clause-ok t c =
@@ -174,10 +159,9 @@ join_below-returns-then-not-shared-clause-ok t c =
     c.args.node c.args.from c.in_ok-code.code c.args.literals.now c.lower_right-lower.ensures.node
     c.in_ok-code.ensures.ok
 
-pub join_below-returns-then-not-shared-clause-grown : goal.join_below-returns-then-not-shared-clause-grown
-join_below-returns-then-not-shared-clause-grown t c =
-    grows_lower c.args.m.now c.join_at.new.m c.join_at.ensures.kept c.requires.table.numbered c.lower_right-lower.result
-    c.args.at c.lower_right-lower.ensures.under c.join_at.ensures.grown
+pub join_below-returns-then-not-shared-clause-step : goal.join_below-returns-then-not-shared-clause-step
+join_below-returns-then-not-shared-clause-step t c =
+    at_wider c.lower_right-lower.ensures.under c.join_at.ensures.step
 
 pub join_below-returns-clause-ok : goal.join_below-returns-clause-ok
 join_below-returns-clause-ok t c =
@@ -185,10 +169,9 @@ join_below-returns-clause-ok t c =
     c.args.node c.args.from c.in_ok-code.code c.args.literals.now c.lower_right-lower.ensures.node
     c.in_ok-code.ensures.ok
 
-pub join_below-returns-clause-grown : goal.join_below-returns-clause-grown
-join_below-returns-clause-grown t c =
-    grows_lower c.args.m.now c.join_at.new.m c.join_at.ensures.kept c.requires.table.numbered c.lower_right-lower.result
-    c.args.at c.lower_right-lower.ensures.under c.join_at.ensures.grown
+pub join_below-returns-clause-step : goal.join_below-returns-clause-step
+join_below-returns-clause-step t c =
+    at_wider c.lower_right-lower.ensures.under c.join_at.ensures.step
 
 pub join_below-returns-clause-remembers : goal.join_below-returns-clause-remembers
 join_below-returns-clause-remembers t c =
@@ -196,7 +179,7 @@ join_below-returns-clause-remembers t c =
     let n = c.join_at.new.m in
     let o = c.args.operation in
     let l = c.args.literals.now in
-    let found = found_joined m n c.join_at.ensures.kept o c.lower_right-lower.result c.args.node c.args.from
+    let found = found_joined m n c.join_at.ensures.step.kept o c.lower_right-lower.result c.args.node c.args.from
     (c.args.from + 1) c.in_ok-code.code l refl c.lower_right-lower.ensures.node c.in_ok-code.ensures.ok in
     c.keep.ensures.right n o l c.join_at.ensures.remembers
     (subst (λ k. IsFoundBefore n o l k (c.args.from + 1) c.code.inside.0) (sym c.node.view_is)
@@ -223,7 +206,7 @@ pub join_halves-join_from-requires-then-unsigned_abs-split :
 join_halves-join_from-requires-then-unsigned_abs-split t c =
     let m = c.args.m.now in
     let n = c.join_from.new.m in
-    let x = c.join_from.ensures.kept in
+    let x = c.join_from.ensures.step.kept in
     let e = c.literal_at-literal.result in
     let fits : SFits w32 e.1 = search rules in
     let below = c.requires.right.past e c.literal_at-literal.ensures (λ q. c.if-unsigned_abs-split.true
@@ -240,7 +223,7 @@ join_halves-join_from-requires-then-unsigned_abs-split t c =
             (
               literals_on m n x c.args.split.now.right c.args.from c.args.literals.now below,
               (
-                c.join_from.ensures.knows,
+                c.join_from.ensures.step.knows,
                 c.join_from.ensures.remembers,
               ),
             ),
@@ -249,11 +232,9 @@ join_halves-join_from-requires-then-unsigned_abs-split t c =
       ),
     )
 
-pub join_halves-returns-in_err-second-clause-kept :
-    goal.join_halves-returns-in_err-second-clause-kept
-join_halves-returns-in_err-second-clause-kept t c =
-    extends_on c.args.m.now c.join_from.new.m c.join_from-then-unsigned_abs-split.new.m c.join_from.ensures.kept
-    c.join_from-then-unsigned_abs-split.ensures.kept
+pub join_halves-returns-in_err-second-clause-step : goal.join_halves-returns-in_err-second-clause-step
+join_halves-returns-in_err-second-clause-step t c =
+    at_on c.join_from.ensures.step c.join_from-then-unsigned_abs-split.ensures.step
 
 pub join_halves-returns-then-unsigned_abs-split-clause-ok :
     goal.join_halves-returns-then-unsigned_abs-split-clause-ok
@@ -265,16 +246,16 @@ join_halves-returns-then-unsigned_abs-split-clause-ok t c =
     let fits : SFits w32 e.1 = search rules in
     let below = c.requires.right.past e c.literal_at-literal.ensures (λ q. c.if-unsigned_abs-split.true
     (c.unsigned_abs.ensures.value ∙ ap unsigned_abs (to_z-of_z w32 e.1 fits) ∙ q)) in
-    joins_both m n k c.join_from.ensures.kept c.join_from-then-unsigned_abs-split.ensures.kept c.args.operation
+    joins_both m n k c.join_from.ensures.step.kept c.join_from-then-unsigned_abs-split.ensures.step.kept
+    c.args.operation
     c.args.split.now.right c.args.split.now.variable c.args.halves.now.0 c.args.halves.now.1 c.args.from
     c.in_ok-first.first c.in_ok-second.second
     c.args.literals.now below c.in_ok-first.ensures.ok c.in_ok-second.ensures.ok
 
-pub join_halves-returns-then-unsigned_abs-split-clause-kept :
-    goal.join_halves-returns-then-unsigned_abs-split-clause-kept
-join_halves-returns-then-unsigned_abs-split-clause-kept t c =
-    extends_on c.args.m.now c.join_from.new.m c.join_from-then-unsigned_abs-split.new.m c.join_from.ensures.kept
-    c.join_from-then-unsigned_abs-split.ensures.kept
+pub join_halves-returns-then-unsigned_abs-split-clause-step :
+    goal.join_halves-returns-then-unsigned_abs-split-clause-step
+join_halves-returns-then-unsigned_abs-split-clause-step t c =
+    at_on c.join_from.ensures.step c.join_from-then-unsigned_abs-split.ensures.step
 
 pub join_halves-join_from-requires-then-literal-deciding_value :
     goal.join_halves-join_from-requires-then-literal-deciding_value
@@ -316,7 +297,7 @@ join_halves-returns-in_ok-first-2-clause-ok t c =
     let sign : lt_z (pos 0) e.1 ≡ deciding c.args.operation =
     sym (ap (lt_z (pos 0)) read) ∙ same_sign (lt_z (pos 0) (to_z w32 (of_z w32 e.1))) c.deciding_value.result
     c.if-literal-deciding_value.true ∙ c.deciding_value.ensures in
-    joins_first m a.new.m a.ensures.kept c.args.operation c.requires.operation c.args.split.now.right
+    joins_first m a.new.m a.ensures.step.kept c.args.operation c.requires.operation c.args.split.now.right
     c.args.split.now.variable c.args.halves.now.0
     c.args.halves.now.1 c.args.from c.in_ok-first-2.first c.args.literals.now e c.literal_at-literal.ensures
     (literal_sign c.args.split.now.variable e.1 (deciding c.args.operation) c.requires.right.variable same sign)
@@ -335,7 +316,7 @@ join_halves-returns-in_ok-second-2-clause-ok t c =
     let sign : lt_z (pos 0) e.1 ≡ not (deciding c.args.operation) =
     sym (ap (lt_z (pos 0)) read) ∙ other_sign (lt_z (pos 0) (to_z w32 (of_z w32 e.1))) c.deciding_value.result
     c.if-literal-deciding_value.false ∙ ap not c.deciding_value.ensures in
-    joins_second m a.new.m a.ensures.kept c.args.operation c.requires.operation c.args.split.now.right
+    joins_second m a.new.m a.ensures.step.kept c.args.operation c.requires.operation c.args.split.now.right
     c.args.split.now.variable
     c.args.halves.now.0 c.args.halves.now.1 c.args.from c.in_ok-second-2.second c.args.literals.now e
     c.literal_at-literal.ensures

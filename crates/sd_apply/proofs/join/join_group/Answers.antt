@@ -30,18 +30,19 @@ returns-clause-ok c =
     let l = c.args.literals.now in
     IfOk-weaker c.join_from-joined.result (λ r. JoinsFrom m n c.args.operation v c.args.node 0 l r)
     (λ r. JoinsGroup m n c.args.operation c.args.node l r)
-    (λ r h. joins_group m n c.join_from-joined.ensures.table c.args.operation c.root-root.result v c.args.node r l
+    (λ r h. joins_group m n c.join_from-joined.ensures.step.table c.args.operation c.root-root.result v c.args.node r l
     (c.root-root.ensures.root ∙ ap number_of c.vtree.ensures.vtree)
     (λ d k. below_shown m c.vtree.ensures.table v c.args.node c.lowest_over-over.ensures.node d k.shows) h)
     c.join_from-joined.ensures.ok
 
 pub returns-clause-grown : goal.returns-clause-grown
 returns-clause-grown c =
-    grows_group c.args.m.now c.join_from-joined.new.m c.join_from-joined.ensures.kept c.vtree.ensures.table.numbered
+    grows_group c.args.m.now c.join_from-joined.new.m c.join_from-joined.ensures.step.kept
+    c.vtree.ensures.table.numbered
     c.lowest_over-over.result c.args.node c.args.literals.now c.lowest_over-over.ensures.lowest
-    c.join_from-joined.ensures.grown
+    c.join_from-joined.ensures.step.grown
 
 pub give_back-requires-clause-serves : goal.give_back-requires-clause-serves
 give_back-requires-clause-serves c =
-    serves_on c.lent-recent.new.c c.args.m.now c.join_from-joined.new.m c.join_from-joined.ensures.kept
+    serves_on c.lent-recent.new.c c.args.m.now c.join_from-joined.new.m c.join_from-joined.ensures.step.kept
     c.lent-recent.ensures.serves

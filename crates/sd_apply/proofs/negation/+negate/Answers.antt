@@ -3,7 +3,7 @@ use Rattle.std.proofs.Common.{map, get_or, arith}
 use Rattle.std.proofs.lemmas.Result.{IfOk-weaker, on_err_weaker}
 use Rattle.sd_model.specs.Tree.{AreDistinct}
 use Rattle.sd_manager.specs.Views.{pairs_at}
-use Rattle.sd_manager.proofs.Extending.{extends_self, extends_on}
+use Rattle.sd_manager.proofs.Extending.{extends_self}
 use Rattle.sd_apply.specs.Terminal.{opposite_of}
 use Rattle.sd_apply.specs.Places.{width}
 use Rattle.sd_apply.specs.Growing.{GrowsByAnswer}
@@ -12,15 +12,14 @@ use Rattle.sd_apply.specs.Calls.{Joins, NegatesAt, NegatesSubs}
 use Rattle.sd_apply.proofs.Trees.{width_positive, right_there}
 use Rattle.sd_apply.proofs.Forks.{right_on}
 use Rattle.sd_apply.proofs.Listed.{width_on, there_on, below_on, pair_at}
-use Rattle.sd_apply.proofs.Growing.{grows_right, grows_at, grows_last}
+use Rattle.sd_apply.proofs.Growing.{grows_right}
 use Rattle.sd_apply.proofs.Growing.{strictly_at, strictly_last, by_last}
 use Rattle.sd_apply.proofs.Refused.{at_error}
-use Rattle.sd_apply.proofs.Steps.{InFlip}
+use Rattle.sd_apply.proofs.Steps.{InFlip, at_on, step_on, at_kept, at_made, right_step, step_over, at_wider}
 use Rattle.sd_apply.proofs.Rows.{sub_below, paired_at}
 use Rattle.sd_apply.proofs.TerminalLaws.{opposite_negates}
 use Rattle.sd_apply.proofs.Standing.{shown}
 use Rattle.sd_apply.proofs.Served.{right_negates}
-use Rattle.sd_apply.proofs.RightEntries.{knows_on}
 use Rattle.sd_apply.proofs.Opposite.{opposite_right, negates_opposite, operand_node_of, negation_node_of}
 use Rattle.sd_apply.proofs.Expanding.{own_listed}
 use Rattle.sd_apply.proofs.Negating.{negates_on, negate_subs_none, negate_subs_next, negate_subs_done}
@@ -39,18 +38,19 @@ find_or_negate-returns-in-Some-look-clause-ok t c =
 
 -- what was found is kept
 
-pub negate_anew-returns-clause-knows : goal.negate_anew-returns-clause-knows
-negate_anew-returns-clause-knows t c =
+pub negate_anew-returns-clause-step : goal.negate_anew-returns-clause-step
+negate_anew-returns-clause-step t c =
     let m = c.args.m.now in
     let n = c.negate_elements.new.m in
-    let x = c.negate_elements.ensures.kept in
+    let x = c.negate_elements.ensures.step.kept in
     let negated = c.in_ok-code.ensures.ok in
-    let opposite = negates_opposite m n c.negate_elements.ensures.table x c.args.at c.args.a
+    let opposite = negates_opposite m n c.negate_elements.ensures.step.table x c.args.at c.args.a
     c.in_ok-code.code negated c.requires.a in
-    c.keep.ensures.right n c.negate_elements.ensures.knows
+    at_kept c.negate_elements.ensures.step
+    (c.keep.ensures.right n c.negate_elements.ensures.step.knows
     (opposite_right n 0 c.args.a c.in_ok-code.code c.a.inside.0 c.code.inside.0 c.a.view_is
     c.code.view_is (operand_node_of m n x c.args.at c.args.a c.requires.a)
-    (negation_node_of m n c.args.at c.args.a c.in_ok-code.code negated c.requires.a) opposite)
+    (negation_node_of m n c.args.at c.args.a c.in_ok-code.code negated c.requires.a) opposite))
 
 -- two elements
 
@@ -97,7 +97,8 @@ negate_elements-make_apart-requires-clause-pairs t c =
     c.in_ok-negated.ensures.first c.in_ok-negated.ensures.second in
     let x = c.requires.a in
     let sx = shown m c.args.at c.args.a x.diagram x.is in
-    let q = are_negated m n f.ensures.table c.negate_both.ensures.table c.negate_both.ensures.kept f.result.node
+    let q = are_negated m n f.ensures.table c.negate_both.ensures.step.table c.negate_both.ensures.step.kept
+    f.result.node
     u w c.args.a l
     f.ensures.children x.diagram sx (f.ensures.place x.diagram sx) c.requires.code k in
     record { shown = q.shown; is = q.is }
@@ -118,7 +119,8 @@ negate_elements-make_apart-requires-clause-differ t c =
     c.in_ok-negated.ensures.first c.in_ok-negated.ensures.second in
     let x = c.requires.a in
     let sx = shown m c.args.at c.args.a x.diagram x.is in
-    let q = are_negated m n f.ensures.table c.negate_both.ensures.table c.negate_both.ensures.kept f.result.node
+    let q = are_negated m n f.ensures.table c.negate_both.ensures.step.table c.negate_both.ensures.step.kept
+    f.result.node
     u w c.args.a l
     f.ensures.children x.diagram sx (f.ensures.place x.diagram sx) c.requires.code k in
     q.differ
@@ -139,30 +141,20 @@ negate_elements-returns-then-are_two-clause-ok t c =
     (c.are_two.ensures c.if-are_two.true) c.element.ensures.pair c.element-then-are_two.ensures.pair
     c.in_ok-negated.ensures.first c.in_ok-negated.ensures.second in
     IfOk-weaker c.make_apart.result (λ r. Joins n o u w l r) (λ r. NegatesAt m o c.args.at c.args.a r)
-    (λ r h. negated_joins m n o f.ensures.table c.negate_both.ensures.table c.negate_both.ensures.kept c.args.at
+    (λ r h. negated_joins m n o f.ensures.table c.negate_both.ensures.step.table c.negate_both.ensures.step.kept
+    c.args.at
     f.result.node u w c.args.a r l f.ensures.children f.ensures.place c.requires.code k h)
     c.make_apart.ensures.ok
 
-pub negate_elements-returns-then-are_two-clause-kept : goal.negate_elements-returns-then-are_two-clause-kept
-negate_elements-returns-then-are_two-clause-kept t c =
-    extends_on c.args.m.now c.negate_both.new.m c.make_apart.new.m c.negate_both.ensures.kept c.make_apart.ensures.kept
-
-pub negate_elements-returns-then-are_two-clause-knows : goal.negate_elements-returns-then-are_two-clause-knows
-negate_elements-returns-then-are_two-clause-knows t c =
-    knows_on c.negate_both.new.recent c.negate_both.new.m c.make_apart.new.m c.make_apart.ensures.kept
-    c.negate_both.ensures.knows
-
-pub negate_elements-returns-then-are_two-clause-grown : goal.negate_elements-returns-then-are_two-clause-grown
-negate_elements-returns-then-are_two-clause-grown t c =
-    let m = c.args.m.now in
-    let n = c.negate_both.new.m in
+pub negate_elements-returns-then-are_two-clause-step : goal.negate_elements-returns-then-are_two-clause-step
+negate_elements-returns-then-are_two-clause-step t c =
     let f = c.place_with_children-fork in
     let u = f.result.left in
     let w = f.result.right in
-    let o = c.make_apart.new.m in
-    grows_last m n o c.negate_both.ensures.kept c.make_apart.ensures.kept f.ensures.table.numbered f.result.node u w
-    c.args.at
-    f.ensures.children f.ensures.under (grows_right m n u w c.negate_both.ensures.grown) c.make_apart.ensures.grown
+    let made = c.make_apart.ensures in
+    at_wider f.ensures.under
+    (at_made (step_over f.result.node u w f.ensures.children (right_step u c.negate_both.ensures.step)) made.kept
+    made.grown made.table)
 
 pub negate_elements-returns-then-are_two-clause-one : goal.negate_elements-returns-then-are_two-clause-one
 negate_elements-returns-then-are_two-clause-one t c =
@@ -173,9 +165,10 @@ negate_elements-returns-then-are_two-clause-one t c =
     let w = f.result.right in
     let o = c.make_apart.new.m in
     IfOk-weaker c.make_apart.result (λ r. GrowsByAnswer n o f.result.node r) (λ r. GrowsByAnswer m o c.args.at r)
-    (λ r h. by_last m n o c.negate_both.ensures.kept c.make_apart.ensures.kept f.ensures.table.numbered f.result.node
+    (λ r h. by_last m n o c.negate_both.ensures.step.kept c.make_apart.ensures.kept f.ensures.table.numbered
+    f.result.node
     u w c.args.at r
-    f.ensures.children f.ensures.under (grows_right m n u w c.negate_both.ensures.grown) h)
+    f.ensures.children f.ensures.under (grows_right m n u w c.negate_both.ensures.step.grown) h)
     c.make_apart.ensures.one
 
 pub negate_elements-returns-then-are_two-clause-none : goal.negate_elements-returns-then-are_two-clause-none
@@ -187,20 +180,19 @@ negate_elements-returns-then-are_two-clause-none t c =
     let w = f.result.right in
     let o = c.make_apart.new.m in
     on_err_weaker c.make_apart.result
-    (λ h. strictly_last m n o c.negate_both.ensures.kept c.make_apart.ensures.kept f.ensures.table.numbered
+    (λ h. strictly_last m n o c.negate_both.ensures.step.kept c.make_apart.ensures.kept f.ensures.table.numbered
     f.result.node u w c.args.at
-    f.ensures.children f.ensures.under (grows_right m n u w c.negate_both.ensures.grown) h)
+    f.ensures.children f.ensures.under (grows_right m n u w c.negate_both.ensures.step.grown) h)
     c.make_apart.ensures.none
 
-pub negate_elements-returns-in_err-negated-clause-grown : goal.negate_elements-returns-in_err-negated-clause-grown
-negate_elements-returns-in_err-negated-clause-grown t c =
-    let m = c.args.m.now in
-    let n = c.negate_both.new.m in
+pub negate_elements-returns-in_err-negated-clause-step :
+    goal.negate_elements-returns-in_err-negated-clause-step
+negate_elements-returns-in_err-negated-clause-step t c =
     let f = c.place_with_children-fork in
     let u = f.result.left in
     let w = f.result.right in
-    grows_at m n c.negate_both.ensures.kept f.ensures.table.numbered f.result.node u w c.args.at
-    f.ensures.children f.ensures.under (grows_right m n u w c.negate_both.ensures.grown)
+    at_wider f.ensures.under
+    (step_over f.result.node u w f.ensures.children (right_step u c.negate_both.ensures.step))
 
 pub negate_elements-returns-in_err-negated-clause-none : goal.negate_elements-returns-in_err-negated-clause-none
 negate_elements-returns-in_err-negated-clause-none t c =
@@ -210,8 +202,8 @@ negate_elements-returns-in_err-negated-clause-none t c =
     let u = f.result.left in
     let w = f.result.right in
     at_error c.from_residual.result
-    (strictly_at m n c.negate_both.ensures.kept f.ensures.table.numbered f.result.node u w c.args.at
-    f.ensures.children f.ensures.under (grows_right m n u w c.negate_both.ensures.grown))
+    (strictly_at m n c.negate_both.ensures.step.kept f.ensures.table.numbered f.result.node u w c.args.at
+    f.ensures.children f.ensures.under (grows_right m n u w c.negate_both.ensures.step.grown))
 
 -- a list of elements
 
@@ -249,7 +241,8 @@ negate_elements-make_apart-requires-2-clause-pairs t c =
     (c.as_slice.ensures ∙ c.in_ok-list.ensures.ok) c.in_ok-pairs.ensures.ok in
     let x = c.requires.a in
     let sx = shown m c.args.at c.args.a x.diagram x.is in
-    let q = are_negated m n f.ensures.table c.negate_subs.ensures.table c.negate_subs.ensures.kept f.result.node
+    let q = are_negated m n f.ensures.table c.negate_subs.ensures.step.table c.negate_subs.ensures.step.kept
+    f.result.node
     u w c.args.a l
     f.ensures.children x.diagram sx (f.ensures.place x.diagram sx) c.requires.code k in
     let part : IsPartitionBelow n u w l = record { shown = q.shown; is = q.is } in
@@ -267,7 +260,8 @@ negate_elements-make_apart-requires-2-clause-differ t c =
     (c.as_slice.ensures ∙ c.in_ok-list.ensures.ok) c.in_ok-pairs.ensures.ok in
     let x = c.requires.a in
     let sx = shown m c.args.at c.args.a x.diagram x.is in
-    let q = are_negated m n f.ensures.table c.negate_subs.ensures.table c.negate_subs.ensures.kept f.result.node
+    let q = are_negated m n f.ensures.table c.negate_subs.ensures.step.table c.negate_subs.ensures.step.kept
+    f.result.node
     u w c.args.a l
     f.ensures.children x.diagram sx (f.ensures.place x.diagram sx) c.requires.code k in
     subst (λ x. AreDistinct (map (λ (e : ℕ × ℕ). e.1) x)) (sym c.as_slice-2.ensures) q.differ
@@ -285,32 +279,21 @@ negate_elements-returns-clause-ok t c =
     (c.as_slice.ensures ∙ c.in_ok-list.ensures.ok) c.in_ok-pairs.ensures.ok in
     let J : ℕ → List (ℕ × ℕ) → Type 0 = λ r x. Joins n o u w x r in
     IfOk-weaker c.make_apart-2.result (λ r. J r c.as_slice-2.result.now) (λ r. NegatesAt m o c.args.at c.args.a r)
-    (λ r h. negated_joins m n o f.ensures.table c.negate_subs.ensures.table c.negate_subs.ensures.kept c.args.at
+    (λ r h. negated_joins m n o f.ensures.table c.negate_subs.ensures.step.table c.negate_subs.ensures.step.kept
+    c.args.at
     f.result.node u w c.args.a r l f.ensures.children f.ensures.place c.requires.code k
     (subst (J r) c.as_slice-2.ensures h))
     c.make_apart-2.ensures.ok
 
-pub negate_elements-returns-clause-kept : goal.negate_elements-returns-clause-kept
-negate_elements-returns-clause-kept t c =
-    extends_on c.args.m.now c.negate_subs.new.m c.make_apart-2.new.m c.negate_subs.ensures.kept
-    c.make_apart-2.ensures.kept
-
-pub negate_elements-returns-clause-knows : goal.negate_elements-returns-clause-knows
-negate_elements-returns-clause-knows t c =
-    knows_on c.negate_subs.new.recent c.negate_subs.new.m c.make_apart-2.new.m c.make_apart-2.ensures.kept
-    c.negate_subs.ensures.knows
-
-pub negate_elements-returns-clause-grown : goal.negate_elements-returns-clause-grown
-negate_elements-returns-clause-grown t c =
-    let m = c.args.m.now in
-    let n = c.negate_subs.new.m in
+pub negate_elements-returns-clause-step : goal.negate_elements-returns-clause-step
+negate_elements-returns-clause-step t c =
     let f = c.place_with_children-fork in
     let u = f.result.left in
     let w = f.result.right in
-    let o = c.make_apart-2.new.m in
-    grows_last m n o c.negate_subs.ensures.kept c.make_apart-2.ensures.kept f.ensures.table.numbered f.result.node u
-    w c.args.at
-    f.ensures.children f.ensures.under c.negate_subs.ensures.grown c.make_apart-2.ensures.grown
+    let made = c.make_apart-2.ensures in
+    at_wider f.ensures.under
+    (at_made (step_over f.result.node u w f.ensures.children c.negate_subs.ensures.step) made.kept made.grown
+    made.table)
 
 pub negate_elements-returns-clause-one : goal.negate_elements-returns-clause-one
 negate_elements-returns-clause-one t c =
@@ -321,9 +304,9 @@ negate_elements-returns-clause-one t c =
     let w = f.result.right in
     let o = c.make_apart-2.new.m in
     IfOk-weaker c.make_apart-2.result (λ r. GrowsByAnswer n o f.result.node r) (λ r. GrowsByAnswer m o c.args.at r)
-    (λ r h. by_last m n o c.negate_subs.ensures.kept c.make_apart-2.ensures.kept f.ensures.table.numbered
+    (λ r h. by_last m n o c.negate_subs.ensures.step.kept c.make_apart-2.ensures.kept f.ensures.table.numbered
     f.result.node u w c.args.at r
-    f.ensures.children f.ensures.under c.negate_subs.ensures.grown h)
+    f.ensures.children f.ensures.under c.negate_subs.ensures.step.grown h)
     c.make_apart-2.ensures.one
 
 pub negate_elements-returns-clause-none : goal.negate_elements-returns-clause-none
@@ -335,20 +318,17 @@ negate_elements-returns-clause-none t c =
     let w = f.result.right in
     let o = c.make_apart-2.new.m in
     on_err_weaker c.make_apart-2.result
-    (λ h. strictly_last m n o c.negate_subs.ensures.kept c.make_apart-2.ensures.kept f.ensures.table.numbered
+    (λ h. strictly_last m n o c.negate_subs.ensures.step.kept c.make_apart-2.ensures.kept f.ensures.table.numbered
     f.result.node u w c.args.at
-    f.ensures.children f.ensures.under c.negate_subs.ensures.grown h)
+    f.ensures.children f.ensures.under c.negate_subs.ensures.step.grown h)
     c.make_apart-2.ensures.none
 
-pub negate_elements-returns-in_err-pairs-clause-grown : goal.negate_elements-returns-in_err-pairs-clause-grown
-negate_elements-returns-in_err-pairs-clause-grown t c =
-    let m = c.args.m.now in
-    let n = c.negate_subs.new.m in
+pub negate_elements-returns-in_err-pairs-clause-step : goal.negate_elements-returns-in_err-pairs-clause-step
+negate_elements-returns-in_err-pairs-clause-step t c =
     let f = c.place_with_children-fork in
     let u = f.result.left in
     let w = f.result.right in
-    grows_at m n c.negate_subs.ensures.kept f.ensures.table.numbered f.result.node u w c.args.at
-    f.ensures.children f.ensures.under c.negate_subs.ensures.grown
+    at_wider f.ensures.under (step_over f.result.node u w f.ensures.children c.negate_subs.ensures.step)
 
 pub negate_elements-returns-in_err-pairs-clause-none : goal.negate_elements-returns-in_err-pairs-clause-none
 negate_elements-returns-in_err-pairs-clause-none t c =
@@ -358,8 +338,8 @@ negate_elements-returns-in_err-pairs-clause-none t c =
     let u = f.result.left in
     let w = f.result.right in
     at_error c.from_residual-in_err-pairs.result
-    (strictly_at m n c.negate_subs.ensures.kept f.ensures.table.numbered f.result.node u w c.args.at
-    f.ensures.children f.ensures.under c.negate_subs.ensures.grown)
+    (strictly_at m n c.negate_subs.ensures.step.kept f.ensures.table.numbered f.result.node u w c.args.at
+    f.ensures.children f.ensures.under c.negate_subs.ensures.step.grown)
 
 -- two negations
 
@@ -367,12 +347,12 @@ pub negate_both-find_or_negate-requires-2 : goal.negate_both-find_or_negate-requ
 negate_both-find_or_negate-requires-2 t c =
     let m = c.args.m.now in
     let n = c.find_or_negate.new.m in
-    let k = c.find_or_negate.ensures.kept in
+    let k = c.find_or_negate.ensures.step.kept in
     let small : 8 * width n.vtree c.args.at + 4 < t = omega (arith, width_on m n k c.args.at, c.decreases) in (
       small,
       (
         there_on m n k c.args.at c.requires.at,
-        (below_on m n k c.args.at c.args.b c.requires.b, c.find_or_negate.ensures.knows),
+        (below_on m n k c.args.at c.args.b c.requires.b, c.find_or_negate.ensures.step.knows),
       ),
     )
 
@@ -380,14 +360,23 @@ pub negate_both-returns-clause-first : goal.negate_both-returns-clause-first
 negate_both-returns-clause-first t c =
     let m = c.args.m.now in
     let n = c.find_or_negate.new.m in
-    negates_on m m n c.find_or_negate-2.new.m (extends_self m) c.find_or_negate-2.ensures.kept c.args.at c.args.a
+    negates_on m m n c.find_or_negate-2.new.m (extends_self m) c.find_or_negate-2.ensures.step.kept c.args.at c.args.a
     c.in_ok-first.first c.in_ok-first.ensures.ok
 
 pub negate_both-returns-clause-second : goal.negate_both-returns-clause-second
 negate_both-returns-clause-second t c =
     let o = c.find_or_negate-2.new.m in
-    negates_on c.args.m.now c.find_or_negate.new.m o o c.find_or_negate.ensures.kept (extends_self o) c.args.at c.args.b
+    negates_on c.args.m.now c.find_or_negate.new.m o o c.find_or_negate.ensures.step.kept (extends_self o) c.args.at
+    c.args.b
     c.in_ok-second.second c.in_ok-second.ensures.ok
+
+pub negate_both-returns-in_err-second-clause-step : goal.negate_both-returns-in_err-second-clause-step
+negate_both-returns-in_err-second-clause-step t c =
+    at_on c.find_or_negate.ensures.step c.find_or_negate-2.ensures.step
+
+pub negate_both-returns-clause-step : goal.negate_both-returns-clause-step
+negate_both-returns-clause-step t c =
+    at_on c.find_or_negate.ensures.step c.find_or_negate-2.ensures.step
 
 -- the loop over a list
 
@@ -442,13 +431,7 @@ negate_subs-loop-i-preserved t c =
     c.args.fork.now.left
     c.args.fork.now.right l
     c.loop-i.pairs.items c.push.new.pairs.items i f c.in_ok-other.other c.loop-i.invariant
-    (record {
-      kept = c.find_or_negate.ensures.kept;
-      knows = c.find_or_negate.ensures.knows;
-      table = c.find_or_negate.ensures.table;
-      grown = grows_right c.loop-i.m c.find_or_negate.new.m c.args.fork.now.left c.args.fork.now.right
-          c.find_or_negate.ensures.grown;
-    })
+    (right_step c.args.fork.now.left c.find_or_negate.ensures.step)
     c.loop-i-test.true at c.in_ok-other.ensures.ok c.in_ok-push.ensures.ok
 
 pub negate_subs-returns-clause-ok : goal.negate_subs-returns-clause-ok
@@ -456,3 +439,11 @@ negate_subs-returns-clause-ok t c =
     negate_subs_done c.args.m.now c.loop-i.m c.loop-i.recent c.args.fork.now.left c.args.fork.now.right c.args.list.now
     c.loop-i.pairs.items c.loop-i.i
     c.loop-i.invariant c.loop-i-test.false c.loop-i.auto.i-end
+
+pub negate_subs-returns-in_err-other-clause-step : goal.negate_subs-returns-in_err-other-clause-step
+negate_subs-returns-in_err-other-clause-step t c =
+    step_on c.loop-i.invariant.step (right_step c.args.fork.now.left c.find_or_negate.ensures.step)
+
+pub negate_subs-returns-in_err-push-clause-step : goal.negate_subs-returns-in_err-push-clause-step
+negate_subs-returns-in_err-push-clause-step t c =
+    step_on c.loop-i.invariant.step (right_step c.args.fork.now.left c.find_or_negate.ensures.step)

@@ -138,9 +138,9 @@ returns-clause-ok c =
     let least : 2 ≤ c.args.a = omega (arith, c.if-a-lt2.false, c.a.view_is) in
     let E : List (ℕ × ℕ) → Type 0 = λ l. ExpandsAt m n p c.args.a l in
     let list : List (ℕ × ℕ) = (c.args.a, 1) ∷ (c.in_ok-other.other, 0) ∷ [] in
-    let h : E list = expands_at m n c.negate_at.ensures.table p u w c.args.a list
-    (children_on m n c.negate_at.ensures.kept p u w e)
-    (expand_left m n i c.negate_at.ensures.kept p u w c.args.a c.in_ok-other.other least
+    let h : E list = expands_at m n c.negate_at.ensures.step.table p u w c.args.a list
+    (children_on m n c.negate_at.ensures.step.kept p u w e)
+    (expand_left m n i c.negate_at.ensures.step.kept p u w c.args.a c.in_ok-other.other least
     (λ x k. left_under m i p u w c.place_of-own.result c.position-middle.result c.position-at.result e x k.under
     (c.place_of-own.ensures.place x (shown m p c.args.a x k)) np ao lt)
     c.in_ok-other.ensures.ok) in
@@ -149,14 +149,14 @@ returns-clause-ok c =
 
 pub returns-clause-grown : goal.returns-clause-grown
 returns-clause-grown c =
-    strictly_left c.args.m.now c.negate_at.new.m c.negate_at.ensures.kept c.args.place c.in-Some.children.0
+    strictly_left c.args.m.now c.negate_at.new.m c.negate_at.ensures.step.kept c.args.place c.in-Some.children.0
     c.in-Some.children.1
     (subst (λ t. HasChildren t c.args.place c.in-Some.children.0 c.in-Some.children.1) c.vtree.ensures.vtree
-    (sym c.in-Some.is ∙ c.children.ensures.children)) c.negate_at.ensures.grown
+    (sym c.in-Some.is ∙ c.children.ensures.children)) c.negate_at.ensures.step.grown
 
 pub returns-in_err-other-clause-grown : goal.returns-in_err-other-clause-grown
 returns-in_err-other-clause-grown c =
-    strictly_left c.args.m.now c.negate_at.new.m c.negate_at.ensures.kept c.args.place c.in-Some.children.0
+    strictly_left c.args.m.now c.negate_at.new.m c.negate_at.ensures.step.kept c.args.place c.in-Some.children.0
     c.in-Some.children.1
     (subst (λ t. HasChildren t c.args.place c.in-Some.children.0 c.in-Some.children.1) c.vtree.ensures.vtree
-    (sym c.in-Some.is ∙ c.children.ensures.children)) c.negate_at.ensures.grown
+    (sym c.in-Some.is ∙ c.children.ensures.children)) c.negate_at.ensures.step.grown

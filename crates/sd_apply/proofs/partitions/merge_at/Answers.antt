@@ -60,7 +60,7 @@ returns-clause-ok c =
     ∙ c.children.ensures.children) in
     let M : List (ℕ × ℕ) → List (ℕ × ℕ) → Type 0 = λ k r. Merges old new u w (map sub_then_prime k) r in
     IfOk-weaker c.merge.result (λ r. M c.as_slice.result.now r.items) (λ r. MergesAt old new p l r.items)
-    (λ r h. merges_at old new c.vtree.ensures.table c.merge.ensures.table c.merge.ensures.kept p u w l
+    (λ r h. merges_at old new c.vtree.ensures.table c.merge.ensures.step.table c.merge.ensures.step.kept p u w l
     (map sub_then_prime s) r.items e c.in_ok-sorted.ensures.order
     (subst (λ k. M k r.items) c.as_slice.ensures h))
     c.merge.ensures.ok
@@ -70,6 +70,6 @@ returns-clause-grown c =
     let p = c.args.place in
     let u = c.in-Some.children.0 in
     let w = c.in-Some.children.1 in
-    strictly_either c.args.m.now c.merge.new.m p u w c.merge.ensures.kept
+    strictly_either c.args.m.now c.merge.new.m p u w c.merge.ensures.step.kept
     (subst (λ t. HasChildren t p u w) c.vtree.ensures.vtree (sym c.in-Some.is ∙ c.children.ensures.children))
-    c.merge.ensures.grown
+    c.merge.ensures.step.grown

@@ -57,7 +57,8 @@ returns-clause-ok c =
     ∙ c.children.ensures.children) in
     IfOk-weaker c.multiply.result (λ r. Multiplies old new o u w l k r.items)
     (λ r. MultipliesAt old new o p l k r.items)
-    (λ r h. multiplies_at old new c.vtree.ensures.table c.multiply.ensures.table c.multiply.ensures.kept o p u w l k
+    (λ r h. multiplies_at old new c.vtree.ensures.table c.multiply.ensures.step.table c.multiply.ensures.step.kept o
+    p u w l k
     r.items e h)
     c.multiply.ensures.ok
 
@@ -66,6 +67,6 @@ returns-clause-grown c =
     let p = c.args.place in
     let u = c.in-Some.children.0 in
     let w = c.in-Some.children.1 in
-    strictly_either c.args.m.now c.multiply.new.m p u w c.multiply.ensures.kept
+    strictly_either c.args.m.now c.multiply.new.m p u w c.multiply.ensures.step.kept
     (subst (λ t. HasChildren t p u w) c.vtree.ensures.vtree (sym c.in-Some.is ∙ c.children.ensures.children))
-    c.multiply.ensures.grown
+    c.multiply.ensures.step.grown

@@ -1,18 +1,15 @@
 use Rattle.std.proofs.Common.{◌≡◌, sym, subst, ℕ, ◌+◌, ◌*◌, ◌≤◌, ◌<◌, arith, Some, None, IfOk}
 use Rattle.std.proofs.lemmas.Result.{IfOk-weaker}
 use Rattle.sd_vtree.specs.Numbered.{IsUnder as StandsUnder}
-use Rattle.sd_manager.proofs.Extending.{extends_on}
 use Rattle.sd_apply.specs.Places.{width}
-use Rattle.sd_apply.specs.Growing.{GrowsBelow}
 use Rattle.sd_apply.specs.Calls.{NegatesAt}
 use Rattle.sd_apply.specs.Halves.{IsSplit, MakesHalves}
 use Rattle.sd_apply.specs.Difference.{SubtractsAt}
 use Rattle.sd_apply.proofs.Trees.{width_positive, children_width, right_there}
 use Rattle.sd_apply.proofs.Listed.{width_on, there_on, below_on}
-use Rattle.sd_apply.proofs.Growing.{grows_both}
-use Rattle.sd_apply.proofs.JoiningSteps.{grows_lower}
-use Rattle.sd_apply.proofs.RightEntries.{knows_on}
-use Rattle.sd_apply.proofs.ByHalves.{first_high, first_low, second_high, second_low, halves_grown}
+use Rattle.sd_apply.specs.Steps.{IsStepAt}
+use Rattle.sd_apply.proofs.Steps.{at_on, at_kept, at_made, at_wider}
+use Rattle.sd_apply.proofs.ByHalves.{first_high, first_low, second_high, second_low, halves_step}
 use Rattle.sd_apply.proofs.Expanding.{below_at}
 use Rattle.sd_apply.proofs.AndNot.{known_at, known_subtracts, are_unknown, true_subtracts, right_subtracts}
 use Rattle.sd_apply.proofs.AndNot.{subtracts_right, subtracts_over, subtracts_halves, high_subtracted, low_subtracted}
@@ -57,12 +54,13 @@ find_or_subtract-subtract_anew-requires t c =
 
 -- what was found is kept
 
-pub subtract_anew-returns-clause-knows : goal.subtract_anew-returns-clause-knows
-subtract_anew-returns-clause-knows t c =
-    c.keep.ensures.right c.subtract_at_lca.new.m c.subtract_at_lca.ensures.knows
+pub subtract_anew-returns-clause-step : goal.subtract_anew-returns-clause-step
+subtract_anew-returns-clause-step t c =
+    at_kept c.subtract_at_lca.ensures.step
+    (c.keep.ensures.right c.subtract_at_lca.new.m c.subtract_at_lca.ensures.step.knows
     (subtracts_right c.args.m.now c.subtract_at_lca.new.m 0 c.args.at c.args.a c.args.b c.in_ok-code.code
-    c.a.inside.0 c.b.inside.0 c.code.inside.0 c.subtract_at_lca.ensures.kept c.a.view_is c.b.view_is
-    c.code.view_is c.requires.a c.requires.b c.in_ok-code.ensures.ok)
+    c.a.inside.0 c.b.inside.0 c.code.inside.0 c.subtract_at_lca.ensures.step.kept c.a.view_is c.b.view_is
+    c.code.view_is c.requires.a c.requires.b c.in_ok-code.ensures.ok))
 
 -- by halves at the lowest vtree node over both
 
@@ -103,13 +101,11 @@ subtract_at_lca-returns-in-Some-clause-ok t c =
     (λ r h. subtracts_over m d.new.m c.args.at f.result.node a b r f.ensures.first f.ensures.second h)
     (subst (λ p. IfOk d.result (λ r. A p r)) c.in-Some.ensures.node d.ensures.ok)
 
-pub subtract_at_lca-returns-in-Some-clause-grown : goal.subtract_at_lca-returns-in-Some-clause-grown
-subtract_at_lca-returns-in-Some-clause-grown t c =
-    let m = c.args.m.now in
+pub subtract_at_lca-returns-in-Some-clause-step : goal.subtract_at_lca-returns-in-Some-clause-step
+subtract_at_lca-returns-in-Some-clause-step t c =
     let d = c.subtract_by_halves in
-    let f = c.lca_with_children-fork in
-    grows_lower m d.new.m d.ensures.kept f.ensures.table.numbered f.result.node c.args.at f.ensures.under
-    (subst (λ p. GrowsBelow m d.new.m p) c.in-Some.ensures.node d.ensures.grown)
+    at_wider c.lca_with_children-fork.ensures.under
+    (subst (λ p. IsStepAt c.args.m.now d.new.m d.new.recent p) c.in-Some.ensures.node d.ensures.step)
 
 -- from the halves
 
@@ -132,29 +128,28 @@ subtract_by_halves-subtract_halves-requires t c =
       ),
     )
 
-pub subtract_by_halves-returns-in_err-both-clause-grown : goal.subtract_by_halves-returns-in_err-both-clause-grown
-subtract_by_halves-returns-in_err-both-clause-grown t c =
-    halves_grown c.args.m.now c.subtract_halves.new.m c.subtract_halves.ensures.kept c.requires.table c.args.found.now
-    c.args.a c.args.b c.requires.halves c.subtract_halves.ensures.grown
+pub subtract_by_halves-returns-in_err-both-clause-step :
+    goal.subtract_by_halves-returns-in_err-both-clause-step
+subtract_by_halves-returns-in_err-both-clause-step t c =
+    halves_step c.args.found.now c.args.a c.args.b c.requires.halves c.subtract_halves.ensures.step
 
 pub subtract_by_halves-returns-then-are_same_halves-clause-ok :
     goal.subtract_by_halves-returns-then-are_same_halves-clause-ok
 subtract_by_halves-returns-then-are_same_halves-clause-ok t c =
-    subtracted_same c.args.m.now c.subtract_halves.new.m c.subtract_halves.ensures.table
-    c.subtract_halves.ensures.kept c.args.found.now c.args.a c.args.b c.in_ok-both.both c.requires.halves
+    subtracted_same c.args.m.now c.subtract_halves.new.m c.subtract_halves.ensures.step.table
+    c.subtract_halves.ensures.step.kept c.args.found.now c.args.a c.args.b c.in_ok-both.both c.requires.halves
     c.in_ok-both.ensures.ok (c.are_same_halves.ensures.first c.if-are_same_halves.true)
     (c.are_same_halves.ensures.second c.if-are_same_halves.true)
 
-pub subtract_by_halves-returns-then-are_same_halves-clause-grown :
-    goal.subtract_by_halves-returns-then-are_same_halves-clause-grown
-subtract_by_halves-returns-then-are_same_halves-clause-grown t c =
-    halves_grown c.args.m.now c.subtract_halves.new.m c.subtract_halves.ensures.kept c.requires.table c.args.found.now
-    c.args.a c.args.b c.requires.halves c.subtract_halves.ensures.grown
+pub subtract_by_halves-returns-then-are_same_halves-clause-step :
+    goal.subtract_by_halves-returns-then-are_same_halves-clause-step
+subtract_by_halves-returns-then-are_same_halves-clause-step t c =
+    halves_step c.args.found.now c.args.a c.args.b c.requires.halves c.subtract_halves.ensures.step
 
 pub subtract_by_halves-make_halves-requires-clause-split : goal.subtract_by_halves-make_halves-requires-clause-split
 subtract_by_halves-make_halves-requires-clause-split t c =
     let f = c.args.found.now in
-    subst (λ v. IsSplit v f.node f.split) (sym c.subtract_halves.ensures.kept.vtree) c.requires.halves.split
+    subst (λ v. IsSplit v f.node f.split) (sym c.subtract_halves.ensures.step.kept.vtree) c.requires.halves.split
 
 pub subtract_by_halves-make_halves-requires-clause-first : goal.subtract_by_halves-make_halves-requires-clause-first
 subtract_by_halves-make_halves-requires-clause-first t c =
@@ -178,25 +173,11 @@ subtract_by_halves-returns-clause-ok t c =
     (λ d h. subtracted_made m n k f c.args.a c.args.b d r c.requires.halves c.in_ok-both.ensures.ok h)
     c.make_halves.ensures.ok
 
-pub subtract_by_halves-returns-clause-kept : goal.subtract_by_halves-returns-clause-kept
-subtract_by_halves-returns-clause-kept t c =
-    extends_on c.args.m.now c.subtract_halves.new.m c.make_halves.new.m c.subtract_halves.ensures.kept
-    c.make_halves.ensures.kept
-
-pub subtract_by_halves-returns-clause-grown : goal.subtract_by_halves-returns-clause-grown
-subtract_by_halves-returns-clause-grown t c =
-    let m = c.args.m.now in
-    let n = c.subtract_halves.new.m in
-    let f = c.args.found.now in
-    grows_both m n c.make_halves.new.m f.node c.make_halves.ensures.kept
-    (halves_grown m n c.subtract_halves.ensures.kept c.requires.table f c.args.a c.args.b c.requires.halves
-    c.subtract_halves.ensures.grown)
-    c.make_halves.ensures.grown
-
-pub subtract_by_halves-returns-clause-knows : goal.subtract_by_halves-returns-clause-knows
-subtract_by_halves-returns-clause-knows t c =
-    knows_on c.subtract_halves.new.recent c.subtract_halves.new.m c.make_halves.new.m c.make_halves.ensures.kept
-    c.subtract_halves.ensures.knows
+pub subtract_by_halves-returns-clause-step : goal.subtract_by_halves-returns-clause-step
+subtract_by_halves-returns-clause-step t c =
+    let made = c.make_halves.ensures in
+    at_made (halves_step c.args.found.now c.args.a c.args.b c.requires.halves c.subtract_halves.ensures.step) made.kept
+    made.grown made.table
 
 -- the two calls
 
@@ -204,7 +185,7 @@ pub subtract_halves-find_or_subtract-requires-2 : goal.subtract_halves-find_or_s
 subtract_halves-find_or_subtract-requires-2 t c =
     let m = c.args.m.now in
     let n = c.find_or_subtract.new.m in
-    let x = c.find_or_subtract.ensures.kept in
+    let x = c.find_or_subtract.ensures.step.kept in
     let w = c.args.right in
     let small : 8 * width n.vtree w + 4 < t = omega (arith, width_on m n x w, c.decreases) in (
       small,
@@ -212,13 +193,22 @@ subtract_halves-find_or_subtract-requires-2 t c =
         there_on m n x w c.requires.right,
         (
           below_on m n x w c.args.first.now.1 c.requires.other_first,
-          (below_on m n x w c.args.second.now.1 c.requires.other_second, c.find_or_subtract.ensures.knows),
+          (below_on m n x w c.args.second.now.1 c.requires.other_second, c.find_or_subtract.ensures.step.knows),
         ),
       ),
     )
 
 pub subtract_halves-returns-clause-ok : goal.subtract_halves-returns-clause-ok
 subtract_halves-returns-clause-ok t c =
-    subtracts_halves c.args.m.now c.find_or_subtract.new.m c.find_or_subtract-2.new.m c.find_or_subtract.ensures.kept
-    c.find_or_subtract-2.ensures.kept c.args.right c.args.first.now c.args.second.now c.in_ok-high.high
+    subtracts_halves c.args.m.now c.find_or_subtract.new.m c.find_or_subtract-2.new.m
+    c.find_or_subtract.ensures.step.kept
+    c.find_or_subtract-2.ensures.step.kept c.args.right c.args.first.now c.args.second.now c.in_ok-high.high
     c.in_ok-low.low c.in_ok-high.ensures.ok c.in_ok-low.ensures.ok
+
+pub subtract_halves-returns-in_err-low-clause-step : goal.subtract_halves-returns-in_err-low-clause-step
+subtract_halves-returns-in_err-low-clause-step t c =
+    at_on c.find_or_subtract.ensures.step c.find_or_subtract-2.ensures.step
+
+pub subtract_halves-returns-clause-step : goal.subtract_halves-returns-clause-step
+subtract_halves-returns-clause-step t c =
+    at_on c.find_or_subtract.ensures.step c.find_or_subtract-2.ensures.step
