@@ -1,5 +1,5 @@
 -- A script as it is seen, and the command that the words of a line stand for.
-use Rattle.std.specs.Prelude.{ℕ, ◌-◌, true, false, not, if◌then◌else◌, bytes_eq, codes}
+use Rattle.std.specs.Prelude.{ℕ, ◌-◌, Bool, true, false, not, if◌then◌else◌, bytes_eq, codes}
 use Rattle.std.specs.Prelude.{Option, Some, None, option_map}
 use Rattle.std.specs.Prelude.{List, [], ◌∷◌, ◌++◌, length, take, drop, map, fold}
 use Rattle.std.specs.List.{list_any, position_or_len}
@@ -7,6 +7,7 @@ use Rattle.std.specs.Bool.{then_some}
 use Rattle.std.specs.Option.{option_and_then}
 use Rattle.sd_base.specs.Words.{is_filled}
 use Rattle.sd_model.specs.declared.trees.Move.TheVariants.{RotateLeft, RotateRight, Swap}
+use Rattle.sd_model.specs.declared.trees.Move.{Move}
 use Rattle.sd_model.specs.declared.trees.Operation.{Operation}
 use Rattle.sd_model.specs.declared.trees.Operation.TheVariants.{And, Or, Xor}
 use Rattle.sd_script.specs.declared.command.Action.{Action}
@@ -96,25 +97,45 @@ names (s, words) = let most = length words - 1 in let own = take most words in
 abbrev pub write_row : Part Action
 write_row = do pure (Write (← names) (← file))
 
+-- a constant
+abbrev pub constant_row : Bool → Part Action
+constant_row b = do pure (Constant (← name) b)
+
+-- a move of the vtree
+abbrev pub turn_row : Move → Part Action
+turn_row kind = do pure (Turn kind (← value number_of))
+
 -- two formulas joined
 abbrev pub binary_row : Operation → Part Action
 binary_row operation = do pure (Binary operation (← name) (← name) (← name))
 
--- the rows of the commands that bind no name
-abbrev pub other_rows : ℕ → Word → Part Action
-other_rows v command =
-    if bytes_eq command (codes "write") then write_row
-    else if bytes_eq command (codes "drop") then (do pure (Drop (← name)))
-    else if bytes_eq command (codes "rotl") then (do pure (Turn RotateLeft (← value number_of)))
-    else if bytes_eq command (codes "rotr") then (do pure (Turn RotateRight (← value number_of)))
-    else if bytes_eq command (codes "swap") then (do pure (Turn Swap (← value number_of)))
-    else if bytes_eq command (codes "minimise") then (do pure (Minimise (← value number_of)))
+-- the rows of the commands that bind no name, and neither free one, nor write names, nor turn the vtree
+abbrev pub last_rows : ℕ → Word → Part Action
+last_rows v command =
+    if bytes_eq command (codes "minimise") then (do pure (Minimise (← value number_of)))
     else if bytes_eq command (codes "limit") then (do pure (Limit (← value number_of)))
     else if bytes_eq command (codes "size") then (do pure (Size (← name)))
     else if bytes_eq command (codes "vtree") then (do pure (Vtree (← file)))
     else if bytes_eq command (codes "same") then (do pure (Same (← name) (← name)))
     else if bytes_eq command (codes "value") then (do pure (Value (← name) (← value (bits_of v))))
     else (λ rest. None)
+
+-- those of all commands that bind no name
+abbrev pub other_rows : ℕ → Word → Part Action
+other_rows v command =
+    if bytes_eq command (codes "write") then write_row
+    else if bytes_eq command (codes "drop") then (do pure (Drop (← name)))
+    else if bytes_eq command (codes "rotl") then turn_row RotateLeft
+    else if bytes_eq command (codes "rotr") then turn_row RotateRight
+    else if bytes_eq command (codes "swap") then turn_row Swap
+    else last_rows v command
+
+-- those of the commands that bind a name to a formula with a variable less, and then the others
+abbrev pub narrowed_rows : ℕ → Word → Part Action
+narrowed_rows v command =
+    if bytes_eq command (codes "given") then (do pure (Given (← name) (← name) (← value literal_of)))
+    else if bytes_eq command (codes "forget") then (do pure (Forget (← name) (← name) (← value variable_of)))
+    else other_rows v command
 
 -- those of the commands that bind a name to what is made of other names, and then the others
 abbrev pub made_rows : ℕ → Word → Part Action
@@ -123,20 +144,23 @@ made_rows v command =
     else if bytes_eq command (codes "and") then binary_row And
     else if bytes_eq command (codes "or") then binary_row Or
     else if bytes_eq command (codes "xor") then binary_row Xor
-    else if bytes_eq command (codes "given") then (do pure (Given (← name) (← name) (← value literal_of)))
-    else if bytes_eq command (codes "forget") then (do pure (Forget (← name) (← name) (← value variable_of)))
-    else other_rows v command
+    else narrowed_rows v command
+
+-- those of the commands that bind a name to what has a number, and then the others
+abbrev pub numbered_rows : ℕ → Word → Part Action
+numbered_rows v command =
+    if bytes_eq command (codes "output") then (do pure (Output (← name) (← value number_of)))
+    else if bytes_eq command (codes "lit") then (do pure (Lit (← name) (← value literal_of)))
+    else made_rows v command
 
 -- all of them: first those of the commands that bind a name to what needs no other
 abbrev pub table : ℕ → Word → Part Action
 table v command =
     if bytes_eq command (codes "input") then (do pure (Input (← name)))
-    else if bytes_eq command (codes "true") then (do pure (Constant (← name) true))
-    else if bytes_eq command (codes "false") then (do pure (Constant (← name) false))
+    else if bytes_eq command (codes "true") then constant_row true
+    else if bytes_eq command (codes "false") then constant_row false
     else if bytes_eq command (codes "load") then (do pure (Load (← name) (← file)))
-    else if bytes_eq command (codes "output") then (do pure (Output (← name) (← value number_of)))
-    else if bytes_eq command (codes "lit") then (do pure (Lit (← name) (← value literal_of)))
-    else made_rows v command
+    else numbered_rows v command
 
 -- ---- a line
 
