@@ -6,7 +6,7 @@ use sd_model::{Move, Operation};
 
 /// What a command does. Names and files are numbers, in the order in which the script names them
 /// first, and the fields stand in the order of the words of the line.
-#[derive(Debug, Drop)]
+#[derive(Drop)]
 pub enum Action {
     /// `input N`: N is the formula of the input.
     Input(u32),
@@ -47,7 +47,7 @@ pub enum Action {
 }
 
 /// A command with its line, counted from 1 over all lines of the text.
-#[derive(Debug, Drop)]
+#[derive(Drop)]
 pub struct Command {
     /// The line, 1 to 100,000.
     pub line: u32,

@@ -5,7 +5,7 @@ ghost use Rattle.std.specs.Prelude.{◌≡◌};
 use std::marker::Model;
 
 /// Numbers of names, seen as a list.
-#[derive(Debug, Drop)]
+#[derive(Drop)]
 pub struct Indices {
     numbers: Vec<u32>,
 }
