@@ -8,7 +8,7 @@ ghost use Rattle.sd_script.specs.Commands as commands;
 ghost use Rattle.sd_script.specs.Read.{IsScript};
 ghost use Rattle.sd_script.specs.Scripts as texts;
 ghost use Rattle.sd_script.specs.Scripts.{Gives, empty};
-ghost use Rattle.sd_script.specs.Tables.{is_marked};
+ghost use Rattle.sd_script.specs.Tables.{is_marked, table_words};
 ghost use Rattle.sd_script.specs.Views.{uses_view};
 
 use crate::command::{Action, Command};
@@ -56,6 +56,17 @@ impl<'a> Reader<'a> {
             files_written: Marks::new(alloc),
             loaded: 0,
         }
+    }
+
+    /// The commands, and the names and files.
+    pub(crate) fn into_parts(self) -> (Vec<Command>, Rest<'a>)
+        ensures { script_view self.entry ≡ record {
+          commands = result.0.items;
+          names = table_words result.1.names;
+          files = table_words result.1.files;
+        } }
+    {
+        (self.commands, self.rest)
     }
 
     /// Whether the name of a number is bound.

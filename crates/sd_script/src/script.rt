@@ -80,10 +80,11 @@ pub fn read_script(
     ensures within_limit { IfOk result (λ script. length script.commands ≤ 100000) }
 {
     let reader = read_lines(alloc, bytes, variables, outputs)?;
-    let names = reader.rest.names.texts(alloc)?;
-    let files = reader.rest.files.texts(alloc)?;
+    let (commands, rest) = reader.into_parts();
+    let names = rest.names.texts(alloc)?;
+    let files = rest.files.texts(alloc)?;
     Ok(Script {
-        commands: reader.commands,
+        commands,
         names,
         files,
     })
