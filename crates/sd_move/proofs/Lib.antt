@@ -64,4 +64,5 @@ pub mod NeverFalling
 pub mod SettledKept
 pub mod OneSize
 pub mod Branching
+pub mod Calls
 pub mod Cutting

@@ -20,12 +20,13 @@ ghost use Rattle.sd_manager.specs.Shown.{HasNode};
 ghost use Rattle.sd_manager.specs.Valid.{IsTable};
 ghost use Rattle.sd_manager.specs.Views.{pairs_at};
 ghost use Rattle.sd_manager.specs.Making.{Extends, KeepsRule};
-ghost use Rattle.sd_apply.specs.Growing.{GrowsBelow, GrowsStrictlyBelow};
+ghost use Rattle.sd_apply.specs.Growing.{GrowsBelow};
 ghost use Rattle.sd_apply.specs.Partitions.{IsInnerNode, IsPartitionOf};
 ghost use Rattle.sd_apply.specs.Places.{IsBelow, IsNodeUnder};
 ghost use Rattle.sd_apply.specs.Recent.{Knows};
 ghost use Rattle.sd_move.specs.Branches.{IsCorner, IsOwnList, AddsBranches, AreBranches, AreInnerBelow, ShowsBelow};
 ghost use Rattle.sd_move.specs.Branches.{CanJoin, IsRow, IsGroup, IsNextPrime, IsJoined};
+ghost use Rattle.sd_move.specs.Calls.{IsStep};
 
 use crate::sorting::is_below;
 use sd_apply::{Pairs, Recent, expand_at, merge_at, multiply_at};
@@ -87,11 +88,8 @@ fn add_branches(
     requires knows { Knows recent.old m.old }
     ensures ok { OnOk result
         (AddsBranches m.old m.new upper element branches.old.items branches.new.items) }
-    ensures kept { Extends m.old m.new }
-    ensures grown { GrowsStrictlyBelow m.old m.new upper }
-    ensures knows { Knows recent.new m.new }
+    ensures step { IsStep m.old m.new upper recent.new }
     ensures rule { IfErr result (λ e. KeepsRule m.new e) }
-    ensures table { IsTable m.new }
 {
     let (prime, sub) = element;
     let list = expand_at(alloc, m, recent, upper, sub)?;
@@ -118,11 +116,8 @@ fn branches_of(
     requires knows { Knows recent.old m.old }
     requires table { IsTable m.old }
     ensures ok { IfOk result (λ r. AreBranches m.old m.new corner.now own.now r.items) }
-    ensures kept { Extends m.old m.new }
-    ensures grown { GrowsStrictlyBelow m.old m.new corner.now.upper }
-    ensures knows { Knows recent.new m.new }
+    ensures step { IsStep m.old m.new corner.now.upper recent.new }
     ensures rule { IfErr result (λ e. KeepsRule m.new e) }
-    ensures table { IsTable m.new }
 {
     let mut branches = Vec::new(alloc);
     for index in 0..own.len() {
@@ -228,11 +223,8 @@ pub(crate) fn product_at(
     ensures ok { IfOk result (λ r. (d e : Diagram) → IsNodeUnder m.old place prime d
         → IsNodeUnder m.old place sub e → IsPartitionOf m.new place r.items
         (λ a. combine And (meaning d a) (meaning e a))) }
-    ensures kept { Extends m.old m.new }
-    ensures grown { GrowsStrictlyBelow m.old m.new place }
-    ensures knows { Knows recent.new m.new }
+    ensures step { IsStep m.old m.new place recent.new }
     ensures rule { IfErr result (λ e. KeepsRule m.new e) }
-    ensures table { IsTable m.new }
 {
     let first = expand_at(alloc, m, recent, place, prime)?;
     let second = expand_at(alloc, m, recent, place, sub)?;
@@ -257,11 +249,8 @@ fn group_at(
     requires table { IsTable m.old }
     ensures ok { IfOk result (λ r. (v : Valuation) → CanJoin m.old v corner.now own.now branches.now
         → IsGroup m.new v corner.now branches.now from r.0.items r.1) }
-    ensures kept { Extends m.old m.new }
-    ensures grown { GrowsStrictlyBelow m.old m.new corner.now.lower }
-    ensures knows { Knows recent.new m.new }
+    ensures step { IsStep m.old m.new corner.now.lower recent.new }
     ensures rule { IfErr result (λ e. KeepsRule m.new e) }
-    ensures table { IsTable m.new }
 {
     if pays(branches, from, own.len()) {
         let (row, next) = row_of(alloc, own, branches, from)?;
@@ -315,11 +304,8 @@ fn next_prime(
     requires table { IsTable m.old }
     ensures ok { IfOk result (λ r. (v : Valuation) → CanJoin m.old v corner.now own.now branches.now
         → IsNextPrime m.new v corner.now branches.now from r.0 r.1) }
-    ensures kept { Extends m.old m.new }
-    ensures grown { GrowsStrictlyBelow m.old m.new corner.now.upper }
-    ensures knows { Knows recent.new m.new }
+    ensures step { IsStep m.old m.new corner.now.upper recent.new }
     ensures rule { IfErr result (λ e. KeepsRule m.new e) }
-    ensures table { IsTable m.new }
 {
     let (row, next) = group_at(alloc, m, recent, corner, own, branches, from)?;
     let node = node_of(alloc, m, recent, corner.lower, row.as_slice())?;
@@ -340,11 +326,8 @@ fn join_branches(
     requires knows { Knows recent.old m.old }
     requires table { IsTable m.old }
     ensures ok { IfOk result (λ r. IsJoined m.old m.new corner.now branches.now r.items) }
-    ensures kept { Extends m.old m.new }
-    ensures grown { GrowsStrictlyBelow m.old m.new corner.now.upper }
-    ensures knows { Knows recent.new m.new }
+    ensures step { IsStep m.old m.new corner.now.upper recent.new }
     ensures rule { IfErr result (λ e. KeepsRule m.new e) }
-    ensures table { IsTable m.new }
 {
     let mut all = SmallVec::new(alloc);
     let mut next = 0;
@@ -379,11 +362,8 @@ pub(crate) fn by_branches(
     requires table { IsTable m.old }
     ensures ok { IfOk result (λ r. IfSome r (λ list. IsPartitionOf m.new corner.now.upper list.items
         (pairs_value (value_of (get m.old.linked)) (pairs_at m.old node)))) }
-    ensures kept { Extends m.old m.new }
-    ensures grown { GrowsStrictlyBelow m.old m.new corner.now.upper }
-    ensures knows { Knows recent.new m.new }
+    ensures step { IsStep m.old m.new corner.now.upper recent.new }
     ensures rule { IfErr result (λ e. KeepsRule m.new e) }
-    ensures table { IsTable m.new }
 {
     let own = elements_of(alloc, m, node)?;
     let branches = branches_of(alloc, m, recent, corner, own.as_slice())?;

@@ -19,11 +19,11 @@ ghost use Rattle.sd_laws.proofs.Evaluated.{value_of};
 ghost use Rattle.sd_manager.specs.Shown.{HasNode};
 ghost use Rattle.sd_manager.specs.Valid.{IsTable};
 ghost use Rattle.sd_manager.specs.Views.{pairs_at};
-ghost use Rattle.sd_manager.specs.Making.{Extends, KeepsRule};
-ghost use Rattle.sd_apply.specs.Growing.{GrowsStrictlyBelow};
+ghost use Rattle.sd_manager.specs.Making.{KeepsRule};
 ghost use Rattle.sd_apply.specs.Partitions.{IsInnerNode, IsPartitionOf, AreDisjointAt};
 ghost use Rattle.sd_apply.specs.Places.{IsBelow};
 ghost use Rattle.sd_apply.specs.Recent.{Knows};
+ghost use Rattle.sd_move.specs.Calls.{IsStep};
 ghost use Rattle.sd_move.specs.Rewriting.{AreBelow};
 ghost use Rattle.sd_move.specs.Cells.{IsCell, IsCut, ArePartitions, AddsSums};
 
@@ -53,11 +53,8 @@ fn products_of(
     requires table { IsTable m.old }
     ensures ok { IfOk result (λ r. ArePartitions m.new place (map (λ l. l.items) r.items)
         (pairs_value (value_of (get m.old.linked)) (pairs_at m.old node))) }
-    ensures kept { Extends m.old m.new }
-    ensures grown { GrowsStrictlyBelow m.old m.new place }
-    ensures knows { Knows recent.new m.new }
+    ensures step { IsStep m.old m.new place recent.new }
     ensures rule { IfErr result (λ e. KeepsRule m.new e) }
-    ensures table { IsTable m.new }
 {
     let View::Decomposition { count, .. } = m.view(node) else {
         unreachable!()
@@ -94,11 +91,8 @@ fn cut_in_turn(
     requires table { IsTable m.old }
     ensures ok { IfOk result (λ r. (f g : List Bool → Bool) → IsCell m.old place cell f
         → ArePartitions m.old place (map (λ l. l.items) parts.now) g → IsCut m.new place r.items f g) }
-    ensures kept { Extends m.old m.new }
-    ensures grown { GrowsStrictlyBelow m.old m.new place }
-    ensures knows { Knows recent.new m.new }
+    ensures step { IsStep m.old m.new place recent.new }
     ensures rule { IfErr result (λ e. KeepsRule m.new e) }
-    ensures table { IsTable m.new }
 {
     let mut list = SmallVec::new(alloc);
     let Ok(()) = list.push((cell, NodeId::FALSE)) else {
@@ -128,11 +122,8 @@ fn add_sums(
     requires table { IsTable m.old }
     ensures ok { OnOk result
         (AddsSums m.old m.new place list.now sum all.old.items all.new.items) }
-    ensures kept { Extends m.old m.new }
-    ensures grown { GrowsStrictlyBelow m.old m.new place }
-    ensures knows { Knows recent.new m.new }
+    ensures step { IsStep m.old m.new place recent.new }
     ensures rule { IfErr result (λ e. KeepsRule m.new e) }
-    ensures table { IsTable m.new }
 {
     if sum.is_false() {
         // no product changes
@@ -167,11 +158,8 @@ fn cut(
     requires table { IsTable m.old }
     ensures ok { IfOk result (λ r. (f g : List Bool → Bool) → IsCell m.old place cell f
         → ArePartitions m.old place (map (λ l. l.items) parts.now) g → IsCut m.new place r.items f g) }
-    ensures kept { Extends m.old m.new }
-    ensures grown { GrowsStrictlyBelow m.old m.new place }
-    ensures knows { Knows recent.new m.new }
+    ensures step { IsStep m.old m.new place recent.new }
     ensures rule { IfErr result (λ e. KeepsRule m.new e) }
-    ensures table { IsTable m.new }
 {
     if parts.len() < 4 {
         return cut_in_turn(alloc, m, recent, place, cell, parts);
@@ -213,11 +201,8 @@ pub(crate) fn by_cells(
     requires table { IsTable m.old }
     ensures ok { IfOk result (λ r. IsPartitionOf m.new place r.items
         (pairs_value (value_of (get m.old.linked)) (pairs_at m.old node))) }
-    ensures kept { Extends m.old m.new }
-    ensures grown { GrowsStrictlyBelow m.old m.new place }
-    ensures knows { Knows recent.new m.new }
+    ensures step { IsStep m.old m.new place recent.new }
     ensures rule { IfErr result (λ e. KeepsRule m.new e) }
-    ensures table { IsTable m.new }
 {
     let products = products_of(alloc, m, recent, place, node)?;
     cut(alloc, m, recent, place, NodeId::TRUE, &products)
@@ -239,11 +224,8 @@ pub(crate) fn by_products(
     requires table { IsTable m.old }
     ensures ok { IfOk result (λ r. IsPartitionOf m.new place r.items
         (pairs_value (value_of (get m.old.linked)) (pairs_at m.old node))) }
-    ensures kept { Extends m.old m.new }
-    ensures grown { GrowsStrictlyBelow m.old m.new place }
-    ensures knows { Knows recent.new m.new }
+    ensures step { IsStep m.old m.new place recent.new }
     ensures rule { IfErr result (λ e. KeepsRule m.new e) }
-    ensures table { IsTable m.new }
 {
     let products = products_of(alloc, m, recent, place, node)?;
     cut_in_turn(alloc, m, recent, place, NodeId::TRUE, &products)

@@ -19,13 +19,13 @@ ghost use Rattle.sd_manager.specs.Table.{Table};
 ghost use Rattle.sd_manager.specs.Shown.{HasNode};
 ghost use Rattle.sd_manager.specs.Valid.{IsTable};
 ghost use Rattle.sd_manager.specs.Views.{pairs_at};
-ghost use Rattle.sd_manager.specs.Making.{Extends, KeepsRule};
-ghost use Rattle.sd_apply.specs.Growing.{GrowsStrictlyBelow};
+ghost use Rattle.sd_manager.specs.Making.{KeepsRule};
 ghost use Rattle.sd_apply.specs.Partitions.{IsInnerNode, IsPartitionOf};
 ghost use Rattle.sd_apply.specs.Places.{HasChildren};
 ghost use Rattle.sd_apply.specs.Recent.{Knows};
 ghost use Rattle.sd_apply.specs.Serving.{Serves};
 ghost use Rattle.sd_move.specs.Branches.{IsCornerOf};
+ghost use Rattle.sd_move.specs.Calls.{IsStep};
 ghost use Rattle.sd_move.specs.Moving.{Progress};
 ghost use Rattle.sd_move.specs.Rewriting.{AreBelow, CanRewriteAll, MayRewriteAll, AreRewritten};
 ghost use Rattle.sd_move.specs.Rewriting.{HasRewritten, GoesOn};
@@ -61,11 +61,8 @@ fn partition_at(
     requires table { IsTable m.old }
     ensures ok { IfOk result (λ r. IsPartitionOf m.new place r.items
         (pairs_value (value_of (get m.old.linked)) (pairs_at m.old node))) }
-    ensures kept { Extends m.old m.new }
-    ensures grown { GrowsStrictlyBelow m.old m.new place }
-    ensures knows { Knows recent.new m.new }
+    ensures step { IsStep m.old m.new place recent.new }
     ensures rule { IfErr result (λ e. KeepsRule m.new e) }
-    ensures table { IsTable m.new }
 {
     let Some(children) = m.vtree().children(place) else {
         unreachable!()
@@ -128,11 +125,8 @@ fn new_list(
     ensures ok { IfOk result (λ r. IsPartitionOf m.new place r.items
         (pairs_value (value_of (get m.old.linked)) (pairs_at m.old node))) }
     ensures differ { IfOk result (λ r. AreDistinct (map (λ e. e.1) r.items)) }
-    ensures kept { Extends m.old m.new }
-    ensures grown { GrowsStrictlyBelow m.old m.new place }
-    ensures knows { Knows recent.new m.new }
+    ensures step { IsStep m.old m.new place recent.new }
     ensures rule { IfErr result (λ e. KeepsRule m.new e) }
-    ensures table { IsTable m.new }
 {
     let list = partition_at(alloc, m, recent, place, node)?;
     merge_at(alloc, m, recent, place, list.as_slice())

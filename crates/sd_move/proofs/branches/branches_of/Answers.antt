@@ -1,6 +1,7 @@
 use Rattle.sd_apply.proofs.Listed.{children_on}
 use Rattle.sd_move.proofs.Branching.{collecting_first, collecting_next, collecting_last, collecting_end}
 use Rattle.sd_move.proofs.Branching.{sub_below, read_at}
+use Rattle.sd_move.proofs.Calls.{as_step, step_on}
 use Rattle.sd_move.proofs.branches.branches_of.Goals as goal
 
 pub loop-index-init : goal.loop-index-init
@@ -32,9 +33,9 @@ loop-index-preserved c =
           c.requires.corner c.args.own.now c.loop-index.branches.items c.add_branches.new.branches.items
           c.loop-index.index e
           (read_at c.args.own.now c.loop-index.index _ e c.loop-index-test.true c.index-own-index.is)
-          c.requires.own c.loop-index.invariant.0 c.add_branches.ensures.kept c.add_branches.ensures.table
-          c.add_branches.ensures.grown c.in_ok-add_branches.ensures.ok,
-      c.add_branches.ensures.knows,
+          c.requires.own c.loop-index.invariant.0 c.add_branches.ensures.step.kept c.add_branches.ensures.step.table
+          c.add_branches.ensures.step.grown c.in_ok-add_branches.ensures.ok,
+      c.add_branches.ensures.step.knows,
     )
 
 pub returns-clause-ok : goal.returns-clause-ok
@@ -45,3 +46,12 @@ returns-clause-ok c =
     c.requires.own
     (collecting_end c.args.m.now now c.args.corner.now c.args.own.now l c.loop-index.index
     c.loop-index.invariant.0 c.loop-index-test.false) c.sort_unstable.ensures.permutation
+
+pub returns-clause-step : goal.returns-clause-step
+returns-clause-step c =
+    let s = c.loop-index.invariant in as_step s.0.kept s.0.grown s.1 s.0.table
+
+pub returns-in_err-add_branches-clause-step : goal.returns-in_err-add_branches-clause-step
+returns-in_err-add_branches-clause-step c =
+    let s = c.loop-index.invariant in
+    step_on (as_step s.0.kept s.0.grown s.1 s.0.table) c.add_branches.ensures.step

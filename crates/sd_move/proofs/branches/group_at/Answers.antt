@@ -1,4 +1,5 @@
 use Rattle.sd_move.proofs.Branching.{row_group, branch_at, prime_under, inner_under, one_branch}
+use Rattle.sd_move.proofs.Calls.{no_step}
 use Rattle.sd_move.proofs.branches.group_at.Goals as goal
 
 pub returns-then-from-next-clause-ok : goal.returns-then-from-next-clause-ok
@@ -43,3 +44,15 @@ returns-clause-ok c = λ v h.
     one_branch m c.product_at.new.m t v k own l h i lt c.in_ok-row-2.row.items
     (c.in_ok-row-2.ensures.ok b.1.0.diagram b.1.1.diagram (prime_under m t v k own l h i lt)
     (inner_under m t v k own l h i lt))
+
+pub returns-clause-step : goal.returns-clause-step
+returns-clause-step c = c.product_at.ensures.step
+
+pub returns-in_err-row-2-clause-step : goal.returns-in_err-row-2-clause-step
+returns-in_err-row-2-clause-step c = c.product_at.ensures.step
+
+pub returns-in_err-row-clause-step : goal.returns-in_err-row-clause-step
+returns-in_err-row-clause-step c = no_step c.requires.table c.requires.knows
+
+pub returns-then-from-next-clause-step : goal.returns-then-from-next-clause-step
+returns-then-from-next-clause-step c = no_step c.requires.table c.requires.knows

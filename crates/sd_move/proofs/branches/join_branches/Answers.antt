@@ -2,6 +2,7 @@ use Rattle.std.proofs.Common.{◌∙◌, sym}
 use Rattle.std.specs.FinMap.{get}
 use Rattle.sd_laws.proofs.Evaluated.{value_of}
 use Rattle.sd_move.proofs.Branching.{joining_first, joining_more, joining_skips, joining_last, fewer_left}
+use Rattle.sd_move.proofs.Calls.{as_step, step_on}
 use Rattle.sd_move.proofs.branches.join_branches.Goals as goal
 
 pub loop-next-init : goal.loop-next-init
@@ -27,10 +28,10 @@ loop-next-preserved-in-Ok c =
     let j = c.loop-next.invariant.0 in (
       joining_more c.args.m.now c.loop-next.m c.next_prime.new.m v c.args.corner.now c.args.own.now
           c.args.branches.now c.loop-next.all.items c.push.new.self.items c.loop-next.next c.in_ok-prime.after
-          c.in_ok-prime.prime j c.loop-next-test.true c.next_prime.ensures.kept c.next_prime.ensures.table
-          c.next_prime.ensures.grown (c.in_ok-prime.ensures.ok v j.can)
+          c.in_ok-prime.prime j c.loop-next-test.true c.next_prime.ensures.step.kept c.next_prime.ensures.step.table
+          c.next_prime.ensures.step.grown (c.in_ok-prime.ensures.ok v j.can)
           (λ e. c.if-prime-ne0.true (c.prime.view_is ∙ e)) c.in-Ok.ensures.ok,
-      c.next_prime.ensures.knows,
+      c.next_prime.ensures.step.knows,
     )
 
 -- none where the prime is false
@@ -46,12 +47,26 @@ loop-next-preserved c =
     let j = c.loop-next.invariant.0 in (
       joining_skips c.args.m.now c.loop-next.m c.next_prime.new.m v c.args.corner.now c.args.own.now
           c.args.branches.now c.loop-next.all.items c.loop-next.next c.in_ok-prime.after c.in_ok-prime.prime j
-          c.next_prime.ensures.kept c.next_prime.ensures.table c.next_prime.ensures.grown
+          c.next_prime.ensures.step.kept c.next_prime.ensures.step.table c.next_prime.ensures.step.grown
           (c.in_ok-prime.ensures.ok v j.can) (sym c.prime.view_is ∙ c.if-prime-ne0.false),
-      c.next_prime.ensures.knows,
+      c.next_prime.ensures.step.knows,
     )
 
 pub returns-clause-ok : goal.returns-clause-ok
 returns-clause-ok c =
     joining_last c.args.m.now c.loop-next.m c.args.corner.now c.args.own.now c.args.branches.now
     c.loop-next.all.items c.loop-next.next c.loop-next.invariant.0 c.loop-next-test.false
+
+pub returns-clause-step : goal.returns-clause-step
+returns-clause-step c =
+    let s = c.loop-next.invariant in as_step s.0.kept s.0.grown s.1 s.0.table
+
+pub returns-in_err-prime-clause-step : goal.returns-in_err-prime-clause-step
+returns-in_err-prime-clause-step c =
+    let s = c.loop-next.invariant in
+    step_on (as_step s.0.kept s.0.grown s.1 s.0.table) c.next_prime.ensures.step
+
+pub returns-in_default-clause-step : goal.returns-in_default-clause-step
+returns-in_default-clause-step c =
+    let s = c.loop-next.invariant in
+    step_on (as_step s.0.kept s.0.grown s.1 s.0.table) c.next_prime.ensures.step

@@ -6,7 +6,8 @@ use Rattle.sd_apply.specs.Partitions.{IsPartitionOf, MultipliesAt}
 use Rattle.sd_apply.specs.Places.{IsNodeUnder}
 use Rattle.sd_apply.proofs.AtNode.{partition_disjoint}
 use Rattle.sd_apply.proofs.Listed.{below_on}
-use Rattle.sd_move.proofs.NewList.{expanded_before, expanded_then, extends_three}
+use Rattle.sd_move.proofs.Calls.{as_step, step_on}
+use Rattle.sd_move.proofs.NewList.{expanded_before, expanded_then}
 use Rattle.sd_move.proofs.branches.product_at.Goals as goal
 
 pub expand_at-requires-2-clause-a : goal.expand_at-requires-2-clause-a
@@ -52,7 +53,20 @@ returns-clause-ok c =
     c.in_ok-second.ensures.ok c.as_slice-other.ensures))
     c.multiply_at.ensures.ok
 
-pub returns-clause-kept : goal.returns-clause-kept
-returns-clause-kept c =
-    extends_three c.args.m.now c.expand_at.new.m c.expand_at-2.new.m c.multiply_at.new.m c.expand_at.ensures.kept
-    c.expand_at-2.ensures.kept c.multiply_at.ensures.kept
+pub returns-clause-step : goal.returns-clause-step
+returns-clause-step c =
+    let e = c.expand_at.ensures in
+    let f = c.expand_at-2.ensures in
+    let g = c.multiply_at.ensures in
+    step_on (step_on (as_step e.kept e.grown e.knows e.table) (as_step f.kept f.grown f.knows f.table))
+    (as_step g.kept g.grown g.knows g.table)
+
+pub returns-in_err-second-clause-step : goal.returns-in_err-second-clause-step
+returns-in_err-second-clause-step c =
+    let e = c.expand_at.ensures in
+    let f = c.expand_at-2.ensures in
+    step_on (as_step e.kept e.grown e.knows e.table) (as_step f.kept f.grown f.knows f.table)
+
+pub returns-in_err-first-clause-step : goal.returns-in_err-first-clause-step
+returns-in_err-first-clause-step c =
+    let e = c.expand_at.ensures in as_step e.kept e.grown e.knows e.table

@@ -2,7 +2,7 @@ use Rattle.std.proofs.Common.{◌/◌, length, map, slice_range, sym, subst, tak
 use Rattle.sd_apply.proofs.Listed.{below_on, children_on}
 use Rattle.sd_move.specs.Cells.{ArePartitions, IsCut}
 use Rattle.sd_move.proofs.Branching.{read_at}
-use Rattle.sd_move.proofs.NewList.{extends_three}
+use Rattle.sd_move.proofs.Calls.{as_step, step_on}
 use Rattle.sd_move.proofs.Cutting.{parted, cut_disjoint, lists_parted, halves_fewer, next_there}
 use Rattle.sd_move.proofs.Cutting.{halving_first, halving_more, halving_last}
 use Rattle.sd_move.proofs.cells.+cut.Goals as goal
@@ -29,12 +29,12 @@ loop-index-init t c =
     let r = c.requires.place in
     let parts = c.args.parts.now in
     let half = length parts / 2 in (
-      halving_first m c.cut.new.m c.cut.ensures.table c.args.place r.left r.right r.children c.args.cell
+      halving_first m c.cut.new.m c.cut.ensures.step.table c.args.place r.left r.right r.children c.args.cell
           (map (λ q. q.items) parts) (map (λ q. q.items) (take half parts))
           (map (λ q. q.items) (slice_range parts half (length parts))) (lists_parted (λ q. q.items) parts half)
-          c.cut.ensures.kept c.cut.ensures.grown c.new-all.result.items c.in_ok-first.first.items
+          c.cut.ensures.step.kept c.cut.ensures.step.grown c.new-all.result.items c.in_ok-first.first.items
           c.as_slice-list.result.now c.new-all.ensures.items c.as_slice-list.ensures c.in_ok-first.ensures.ok,
-      c.cut.ensures.knows,
+      c.cut.ensures.step.knows,
     )
 
 -- the other half, for a cell of the first
@@ -98,7 +98,7 @@ add_sums-requires-clause-sum t c =
     (map (λ q. q.items) (slice_range parts (length parts / 2) (length parts))) c.loop-index.all.items list i e
     c.requires.cell.0 c.requires.parts.0 c.requires.cell.1 c.requires.parts.1
     (read_at list i _ e c.loop-index-test.true c.index-list-index.is) c.loop-index.invariant.0 in
-    below_on now mid c.cut-in-loop-index.ensures.kept p e.1 n.sum
+    below_on now mid c.cut-in-loop-index.ensures.step.kept p e.1 n.sum
 
 pub loop-index-preserved : goal.loop-index-preserved
 loop-index-preserved t c =
@@ -115,10 +115,10 @@ loop-index-preserved t c =
           (map (λ q. q.items) (slice_range parts (length parts / 2) (length parts))) c.loop-index.all.items
           c.add_sums.new.all.items list c.in_ok-second.second.items c.as_slice.result.now i e
           (read_at list i _ e c.loop-index-test.true c.index-list-index.is) c.loop-index.invariant.0
-          c.cut-in-loop-index.ensures.kept c.cut-in-loop-index.ensures.grown c.in_ok-second.ensures.ok
-          c.as_slice.ensures c.add_sums.ensures.kept c.add_sums.ensures.table c.add_sums.ensures.grown
+          c.cut-in-loop-index.ensures.step.kept c.cut-in-loop-index.ensures.step.grown c.in_ok-second.ensures.ok
+          c.as_slice.ensures c.add_sums.ensures.step.kept c.add_sums.ensures.step.table c.add_sums.ensures.step.grown
           c.in_ok-add_sums.ensures.ok,
-      c.add_sums.ensures.knows,
+      c.add_sums.ensures.step.knows,
     )
 
 -- all cells
@@ -132,7 +132,23 @@ returns-clause-ok t c = λ f g k v.
     c.loop-index.all.items c.as_slice-list.result.now c.loop-index.index c.loop-index-test.false
     c.loop-index.invariant.0 f g k v
 
-pub returns-in_err-add_sums-clause-kept : goal.returns-in_err-add_sums-clause-kept
-returns-in_err-add_sums-clause-kept t c =
-    extends_three c.args.m.now c.loop-index.m c.cut-in-loop-index.new.m c.add_sums.new.m
-    c.loop-index.invariant.0.kept c.cut-in-loop-index.ensures.kept c.add_sums.ensures.kept
+pub returns-clause-step : goal.returns-clause-step
+returns-clause-step t c =
+    let s = c.loop-index.invariant in as_step s.0.kept s.0.grown s.1 s.0.table
+
+pub returns-in_err-second-clause-step : goal.returns-in_err-second-clause-step
+returns-in_err-second-clause-step t c =
+    let s = c.loop-index.invariant in
+    step_on (as_step s.0.kept s.0.grown s.1 s.0.table) c.cut-in-loop-index.ensures.step
+
+pub returns-in_err-add_sums-clause-step : goal.returns-in_err-add_sums-clause-step
+returns-in_err-add_sums-clause-step t c =
+    let s = c.loop-index.invariant in
+    step_on (step_on (as_step s.0.kept s.0.grown s.1 s.0.table) c.cut-in-loop-index.ensures.step)
+    c.add_sums.ensures.step
+
+pub returns-in_err-first-clause-step : goal.returns-in_err-first-clause-step
+returns-in_err-first-clause-step t c = c.cut.ensures.step
+
+pub returns-then-parts-lt4-clause-step : goal.returns-then-parts-lt4-clause-step
+returns-then-parts-lt4-clause-step t c = c.cut_in_turn.ensures.step

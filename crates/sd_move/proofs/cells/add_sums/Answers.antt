@@ -3,6 +3,7 @@ use Rattle.sd_model.specs.Diagram.{meaning}
 use Rattle.sd_apply.specs.Partitions.{IsPartitionOf}
 use Rattle.sd_apply.specs.Places.{IsNodeUnder}
 use Rattle.sd_apply.proofs.AtNode.{elements_of_on}
+use Rattle.sd_move.proofs.Calls.{as_step, no_step, step_on}
 use Rattle.sd_move.proofs.Cutting.{disjoint_on, sums_with_false}
 use Rattle.sd_move.proofs.cells.add_sums.Goals as goal
 
@@ -35,3 +36,31 @@ returns-then-is_false-clause-ok c =
       each = λ values d h node. sums_with_false m c.requires.table p c.args.list.now values d h
           (subst (λ s. IsNodeUnder m p s d) (c.if-is_false.ensures.0 refl) node);
     }
+
+pub returns-clause-step : goal.returns-clause-step
+returns-clause-step c =
+    let e = c.expand_at.ensures in
+    let f = c.multiply_at.ensures in
+    step_on (as_step e.kept e.grown e.knows e.table) (as_step f.kept f.grown f.knows f.table)
+
+pub returns-in_err-joined-clause-step : goal.returns-in_err-joined-clause-step
+returns-in_err-joined-clause-step c =
+    let e = c.expand_at.ensures in
+    let f = c.multiply_at.ensures in
+    step_on (as_step e.kept e.grown e.knows e.table) (as_step f.kept f.grown f.knows f.table)
+
+pub returns-in_default-append-clause-step : goal.returns-in_default-append-clause-step
+returns-in_default-append-clause-step c =
+    let e = c.expand_at.ensures in
+    let f = c.multiply_at.ensures in
+    step_on (as_step e.kept e.grown e.knows e.table) (as_step f.kept f.grown f.knows f.table)
+
+pub returns-in_default-clause-step : goal.returns-in_default-clause-step
+returns-in_default-clause-step c = no_step c.requires.table c.requires.knows
+
+pub returns-in_err-other-clause-step : goal.returns-in_err-other-clause-step
+returns-in_err-other-clause-step c =
+    let e = c.expand_at.ensures in as_step e.kept e.grown e.knows e.table
+
+pub returns-then-is_false-clause-step : goal.returns-then-is_false-clause-step
+returns-then-is_false-clause-step c = no_step c.requires.table c.requires.knows

@@ -4,20 +4,20 @@ use Rattle.std.proofs.lemmas.Result.{IfOk-weaker}
 use Rattle.sd_laws.specs.Values.{pairs_value}
 use Rattle.sd_laws.proofs.Evaluated.{value_of}
 use Rattle.sd_manager.specs.Views.{pairs_at}
-use Rattle.sd_manager.proofs.Extending.{extends_on}
 use Rattle.sd_apply.specs.Partitions.{IsPartitionOf}
 use Rattle.sd_move.specs.Cells.{IsCell, IsCut, ArePartitions}
+use Rattle.sd_move.proofs.Calls.{step_on}
 use Rattle.sd_move.proofs.Cutting.{inner_on, whole_cell_on, whole_cut}
 use Rattle.sd_move.proofs.cells.by_cells.Goals as goal
 
 pub cut-requires-clause-place : goal.cut-requires-clause-place
 cut-requires-clause-place c =
-    inner_on c.args.m.now c.products_of.new.m c.products_of.ensures.kept c.args.place c.requires.place
+    inner_on c.args.m.now c.products_of.new.m c.products_of.ensures.step.kept c.args.place c.requires.place
 
 pub cut-requires-clause-cell : goal.cut-requires-clause-cell
 cut-requires-clause-cell c = (
   (λ _. true),
-  whole_cell_on c.args.m.now c.products_of.new.m c.products_of.ensures.table c.products_of.ensures.kept c.args.place
+  whole_cell_on c.args.m.now c.products_of.new.m c.products_of.ensures.step.table c.products_of.ensures.step.kept c.args.place
       c.requires.place,
 )
 
@@ -41,11 +41,13 @@ returns-clause-ok c =
     (λ r. (f h : List Bool → Bool) → IsCell n p 1 f → ArePartitions n p lists h → IsCut o p r.items f h)
     (λ r. IsPartitionOf o p r.items g)
     (λ k h. whole_cut o p k.items g (h (λ _. true) g
-    (whole_cell_on m n c.products_of.ensures.table c.products_of.ensures.kept p c.requires.place)
+    (whole_cell_on m n c.products_of.ensures.step.table c.products_of.ensures.step.kept p c.requires.place)
     (subst (λ l. ArePartitions n p (map (λ q. q.items) l) g) (sym c.deref.ensures.value)
     c.in_ok-products.ensures.ok)))
     c.cut.ensures.ok
 
-pub returns-clause-kept : goal.returns-clause-kept
-returns-clause-kept c =
-    extends_on c.args.m.now c.products_of.new.m c.cut.new.m c.products_of.ensures.kept c.cut.ensures.kept
+pub returns-clause-step : goal.returns-clause-step
+returns-clause-step c = step_on c.products_of.ensures.step c.cut.ensures.step
+
+pub returns-in_err-products-clause-step : goal.returns-in_err-products-clause-step
+returns-in_err-products-clause-step c = c.products_of.ensures.step

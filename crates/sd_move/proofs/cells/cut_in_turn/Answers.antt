@@ -1,5 +1,6 @@
 use Rattle.std.proofs.Common.{◌+◌, drop, map, sym, subst}
 use Rattle.sd_apply.specs.Partitions.{AreDisjointAt, IsPartitionOf}
+use Rattle.sd_move.proofs.Calls.{as_step, no_step, step_on}
 use Rattle.sd_move.proofs.Cutting.{IsCutting, cutting_more, cutting_last, lists_end, lists_from, part_there}
 use Rattle.sd_move.proofs.cells.cut_in_turn.Goals as goal
 
@@ -74,3 +75,16 @@ returns-clause-ok c = λ f g k v.
     cutting_last m now p c.args.cell lists list
     (subst (IsCutting m now p c.args.cell lists list)
     (lists_end (λ q. q.items) parts c.loop-index.index c.loop-index-test.false) c.loop-index.invariant.0) f g k v
+
+pub returns-clause-step : goal.returns-clause-step
+returns-clause-step c =
+    let s = c.loop-index.invariant in as_step s.0.kept s.0.grown s.1 s.0.table
+
+pub returns-in_err-list-clause-step : goal.returns-in_err-list-clause-step
+returns-in_err-list-clause-step c =
+    let s = c.loop-index.invariant in
+    let e = c.multiply_at.ensures in
+    step_on (as_step s.0.kept s.0.grown s.1 s.0.table) (as_step e.kept e.grown e.knows e.table)
+
+pub returns-in_default-clause-step : goal.returns-in_default-clause-step
+returns-in_default-clause-step c = no_step c.requires.table c.requires.knows

@@ -1,9 +1,9 @@
 use Rattle.std.proofs.Common.{◌+◌, ◌∙◌, ◌∷◌, [], drop, map, ap, refl, sym, subst}
 use Rattle.std.proofs.lemmas.List.{map-append}
 use Rattle.sd_manager.specs.Views.{pairs_at}
-use Rattle.sd_manager.proofs.Extending.{extends_on}
 use Rattle.sd_apply.proofs.Listed.{below_on}
 use Rattle.sd_move.proofs.NewList.{all_read}
+use Rattle.sd_move.proofs.Calls.{as_step, step_on}
 use Rattle.sd_move.proofs.Cutting.{IsListing, listing_first, listing_there, listing_more, listing_skips, listing_last}
 use Rattle.sd_move.proofs.cells.products_of.Goals as goal
 
@@ -42,12 +42,12 @@ loop-index-preserved c =
     c.requires.code c.requires.codes s c.element-prime.ensures.pair in (
       listing_more m now c.product_at.new.m p c.args.node lists (map (λ q. q.items) c.push.new.self.items)
           c.in_ok-product.product.items (drop (c.loop-index.index + 1) (pairs_at m c.args.node)) pair
-          c.requires.table w.0 w.1.0 w.1.1 c.product_at.ensures.kept c.product_at.ensures.grown
-          c.product_at.ensures.table
+          c.requires.table w.0 w.1.0 w.1.1 c.product_at.ensures.step.kept c.product_at.ensures.step.grown
+          c.product_at.ensures.step.table
           (ap (map (λ q. q.items)) c.in-Ok.ensures.items
           ∙ map-append (λ q. q.items) c.loop-index.products.items (c.in_ok-product.product ∷ []))
           c.in_ok-product.ensures.ok,
-      c.product_at.ensures.knows,
+      c.product_at.ensures.step.knows,
     )
 
 pub returns-clause-ok : goal.returns-clause-ok
@@ -62,10 +62,13 @@ returns-clause-ok c =
     c.requires.table c.requires.node c.requires.code
     (sym c.in-Decomposition.ensures.view) c.loop-index-test.false) c.loop-index.invariant.0)
 
-pub returns-in_err-product-clause-kept : goal.returns-in_err-product-clause-kept
-returns-in_err-product-clause-kept c =
-    extends_on c.args.m.now c.loop-index.m c.product_at.new.m c.loop-index.invariant.0.kept
-    c.product_at.ensures.kept
+pub returns-clause-step : goal.returns-clause-step
+returns-clause-step c =
+    let s = c.loop-index.invariant in as_step s.0.kept s.0.grown s.1 s.0.table
+
+pub returns-in_err-product-clause-step : goal.returns-in_err-product-clause-step
+returns-in_err-product-clause-step c =
+    let s = c.loop-index.invariant in step_on (as_step s.0.kept s.0.grown s.1 s.0.table) c.product_at.ensures.step
 
 -- a false sub
 
@@ -81,3 +84,7 @@ loop-index-preserved-then-is_false c =
           c.element-prime.result (c.if-is_false.ensures.0 refl) w.0,
       c.loop-index.invariant.1,
     )
+
+pub returns-in_default-push-clause-step : goal.returns-in_default-push-clause-step
+returns-in_default-push-clause-step c =
+    let s = c.loop-index.invariant in step_on (as_step s.0.kept s.0.grown s.1 s.0.table) c.product_at.ensures.step

@@ -3,10 +3,9 @@ use Rattle.std.proofs.lemmas.Result.{IfOk-weaker}
 use Rattle.sd_laws.specs.Values.{pairs_value}
 use Rattle.sd_laws.proofs.Evaluated.{value_of}
 use Rattle.sd_manager.specs.Views.{pairs_at}
-use Rattle.sd_manager.proofs.Extending.{extends_on}
 use Rattle.sd_apply.specs.Partitions.{IsPartitionOf, MergesAt}
-use Rattle.sd_apply.proofs.Growing.{strictly_both}
 use Rattle.sd_apply.proofs.Tried.{listed_slice}
+use Rattle.sd_move.proofs.Calls.{as_step, step_on}
 use Rattle.sd_move.proofs.rewriting.new_list.Goals as goal
 
 pub merge_at-requires-clause-partition : goal.merge_at-requires-clause-partition
@@ -27,11 +26,10 @@ returns-clause-ok c =
     (λ r h. h.each f (listed_slice now p c.in_ok-list.list.items c.as_slice.result.now f c.in_ok-list.ensures.ok
     c.as_slice.ensures)) c.merge_at.ensures.ok
 
-pub returns-clause-kept : goal.returns-clause-kept
-returns-clause-kept c =
-    extends_on c.args.m.now c.partition_at.new.m c.merge_at.new.m c.partition_at.ensures.kept c.merge_at.ensures.kept
+pub returns-clause-step : goal.returns-clause-step
+returns-clause-step c =
+    let e = c.merge_at.ensures in
+    step_on c.partition_at.ensures.step (as_step e.kept e.grown e.knows e.table)
 
-pub returns-clause-grown : goal.returns-clause-grown
-returns-clause-grown c =
-    strictly_both c.args.m.now c.partition_at.new.m c.merge_at.new.m c.args.place c.merge_at.ensures.kept
-    c.partition_at.ensures.grown c.merge_at.ensures.grown
+pub returns-in_err-list-clause-step : goal.returns-in_err-list-clause-step
+returns-in_err-list-clause-step c = c.partition_at.ensures.step

@@ -10,6 +10,8 @@ use Rattle.sd_apply.specs.Places.{HasChildren}
 use Rattle.sd_apply.proofs.AtNode.{inner_within}
 use Rattle.sd_apply.proofs.Trees.{there_inner}
 use Rattle.sd_move.proofs.Spreading.{left_child_under, node_key, subs_below}
+use Rattle.sd_move.specs.Calls.{IsStep}
+use Rattle.sd_move.proofs.Calls.{step_on}
 use Rattle.sd_move.proofs.Branching.{codes_on, node_value_on, partition_same}
 use Rattle.sd_move.proofs.rewriting.partition_at.Goals as goal
 
@@ -53,8 +55,8 @@ corner_of-requires-clause-place c =
 
 pub by_products-requires-in-None-clause-codes : goal.by_products-requires-in-None-clause-codes
 by_products-requires-in-None-clause-codes c =
-    codes_on c.args.m.now c.by_branches.new.m c.requires.table c.by_branches.ensures.table
-    c.by_branches.ensures.kept c.args.place c.args.node c.requires.node c.requires.code c.requires.codes
+    codes_on c.args.m.now c.by_branches.new.m c.requires.table c.by_branches.ensures.step.table
+    c.by_branches.ensures.step.kept c.args.place c.args.node c.requires.node c.requires.code c.requires.codes
 
 pub returns-in-None-clause-ok : goal.returns-in-None-clause-ok
 returns-in-None-clause-ok c =
@@ -66,6 +68,13 @@ returns-in-None-clause-ok c =
     let g = pairs_value (value_of (get m.linked)) (pairs_at m c.args.node) in
     IfOk-weaker c.by_products-in-None.result (λ r. IsPartitionOf o p r.items f) (λ r. IsPartitionOf o p r.items g)
     (λ r h. partition_same o p r.items f g h
-    (node_value_on m n c.requires.table c.by_branches.ensures.table c.by_branches.ensures.kept p c.args.node
+    (node_value_on m n c.requires.table c.by_branches.ensures.step.table c.by_branches.ensures.step.kept p c.args.node
     c.requires.node c.requires.code c.requires.codes))
     c.by_products-in-None.ensures.ok
+
+pub returns-in-None-clause-step : goal.returns-in-None-clause-step
+returns-in-None-clause-step c =
+    step_on
+    (subst (λ p. IsStep c.args.m.now c.by_branches.new.m p c.by_branches.new.recent)
+    c.in-Some-corner_of.ensures.upper c.by_branches.ensures.step)
+    c.by_products-in-None.ensures.step
