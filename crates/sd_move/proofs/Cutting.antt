@@ -30,8 +30,9 @@ use Rattle.sd_apply.proofs.Listed.{children_on, node_on}
 use Rattle.sd_apply.proofs.Trees.{bottom_under, top_under}
 use Rattle.sd_move.specs.Cells.{value_within, IsCut, IsCell, ArePartitions, AddsSums}
 use Rattle.sd_move.specs.Rewriting.{AreBelow}
+use Rattle.sd_move.proofs.Below.{from_index}
 use Rattle.sd_move.proofs.Branching.{right_wider}
-use Rattle.sd_move.proofs.NewList.{or_assoc, or_false, and_false, drop_pair, list_stays, pair_below}
+use Rattle.sd_move.proofs.NewList.{or_assoc, or_false, and_false, list_stays, pair_below}
 use Rattle.sd_move.proofs.Spreading.{shown_value, possible_diagram, before_rest}
 
 -- values
@@ -387,7 +388,7 @@ pub next_there : (first now : Table) (p u w : ℕ) → HasChildren first.vtree p
 next_there first now p u w c cell lists seconds all list i e f g k v at h =
     let s = h.each f g k v in
     let q = first_of now h.table p u w (children_on first now h.kept p u w c) e (drop (i + 1) list) s.left
-    (subst (λ l. AreElementsOf now p l s.left) (drop_pair list i e at) s.cells) in
+    (subst (λ l. AreElementsOf now p l s.left) (from_index list i e at) s.cells) in
     record {
       cell_value = meaning q.prime;
       other = s.other;
@@ -412,7 +413,7 @@ halving_more first now mid next p u w c cell lists seconds all longer list secon
       each = λ f g k v.
           let s = h.each f g k v in
           let q = first_of now h.table p u w (children_on first now h.kept p u w c) e rest s.left
-          (subst (λ l. AreElementsOf now p l s.left) (drop_pair list i e at) s.cells) in
+          (subst (λ l. AreElementsOf now p l s.left) (from_index list i e at) s.cells) in
           let o = s.other in
           let gained : List Bool → List Bool = λ a. cond (meaning q.prime a) ((o a || meaning q.sub a) ∷ []) [] in
           let more = sums.each (value_within (meaning q.prime) o) q.sub
@@ -484,7 +485,7 @@ pub listing_there : (first now : Table) (p node i : ℕ) (lists : List (List (�
 listing_there first now p node i lists pair t there low below s at =
     let same : pairs_at now node ≡ pairs_at first node = list_stays first now t s.table s.kept node there low in
     let own : slice_get (pairs_at first node) i ≡ Some pair = subst (λ l. slice_get l i ≡ Some pair) same at in (
-      subst (IsListing first now p node lists) (drop_pair (pairs_at first node) i pair own) s,
+      subst (IsListing first now p node lists) (from_index (pairs_at first node) i pair own) s,
       pair_below first p node i pair below own,
     )
 

@@ -18,7 +18,8 @@ use Rattle.sd_manager.proofs.Reading.{linked_key}
 use Rattle.sd_sweep.proofs.Used.{entry_count, fewer_entries}
 use Rattle.sd_move.specs.Moving.{Progress, MoveInProgress}
 use Rattle.sd_move.specs.Steps.{CanDetachAt, MayDetachAt, WasDetached, AreDetached}
-use Rattle.sd_move.proofs.DetachedOn.{detached_on, detached_keys, still_linked}
+use Rattle.sd_manager.proofs.DetachedFrom.{keys_same, still_linked}
+use Rattle.sd_move.proofs.DetachedOn.{detached_on}
 
 -- a number at the end of a list
 
@@ -84,7 +85,7 @@ module _ (old now : Table) (place : ℕ) (numbers : List ℕ) (d : AreDetached o
       record {
         same = ap (λ (u : Table). detached_from u n (place, list)) d.same
             ∙ refl;
-        keys = λ i. detached_keys now n (place, list) e i ∙ d.keys i;
+        keys = λ i. keys_same now n (place, list) e i ∙ d.keys i;
         still = λ i k f. d.still i k (still_linked now n i k f).1;
         others = λ i k f o. others i k f o (cases_eq i n);
         stay = λ i k f. still_detached i k (d.stay i k f);

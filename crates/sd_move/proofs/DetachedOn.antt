@@ -1,63 +1,28 @@
 -- Detaching a node keeps what holds inside a move.
-use Rattle.std.proofs.Common.{◌≡◌, ◌≢◌, ◌⊎◌, inl, inr, ℕ, ◌+◌, true, false, List, Some, None}
-use Rattle.std.proofs.Common.{sym, ◌∙◌, ap, subst}
+use Rattle.std.proofs.Common.{◌≡◌, ◌≢◌, ◌⊎◌, inl, inr, ℕ, ◌+◌, true, false, List, Some}
+use Rattle.std.proofs.Common.{sym, ◌∙◌, subst}
 use Rattle.std.specs.Option.{IsSome}
 use Rattle.std.specs.FinMap.{get, insert, remove}
 use Rattle.std.proofs.lemmas.Bool.{cases_eq}
-use Rattle.std.proofs.lemmas.Option.{none-some, some_pair_parts}
-use Rattle.sd_vtree.specs.Numbered.{IsNumbered, IsUnder, or_else}
-use Rattle.sd_vtree.proofs.Subtrees.{AtMostOnce, once_numbered}
-use Rattle.sd_vtree.proofs.Under.{under_trans}
-use Rattle.sd_runs.proofs.Maps.{get_insert_same, get_insert_other, get_remove_same, get_remove_other}
+use Rattle.std.proofs.lemmas.Option.{some_pair_parts}
+use Rattle.sd_vtree.specs.Numbered.{IsNumbered}
+use Rattle.sd_vtree.proofs.Subtrees.{once_numbered}
+use Rattle.sd_runs.proofs.Maps.{get_insert_other, get_remove_other}
 use Rattle.sd_laws.specs.Shown.{Shows}
 use Rattle.sd_laws.specs.Values.{Valuation, StandsIn, ShowsValue}
 use Rattle.sd_laws.proofs.Users.{users_above}
 use Rattle.sd_laws.proofs.Within.{shows_within}
-use Rattle.sd_manager.specs.Table.{Table, key_at}
+use Rattle.sd_manager.specs.Table.{Table}
 use Rattle.sd_manager.specs.Valid.{IsSettled}
 use Rattle.sd_manager.specs.Moving.{detached_from, IsTop}
 use Rattle.sd_manager.proofs.Reading.{linked_key}
-use Rattle.sd_manager.proofs.DetachedFrom.{under_apart}
+use Rattle.sd_manager.proofs.DetachedFrom.{keys_same, settled_below, still_linked}
 use Rattle.sd_move.specs.Moving.{Progress, IsNew, MoveInProgress}
 use Rattle.sd_move.proofs.UndoKept.{code_in}
 
 -- keys
 
--- the keys of all nodes stay
-pub detached_keys : (m : Table) (n : ℕ) (k : ℕ × List (ℕ × ℕ)) → get m.linked n ≡ Some k → (i : ℕ) →
-    key_at (detached_from m n k) i ≡ key_at m i
-detached_keys m n k e i = elim (cases_eq i n) [
-  | inl z ↦
-      let a : get (remove m.linked n) i ≡ None = ap (get (remove m.linked n)) z ∙ get_remove_same m.linked n in
-      let b : get (insert m.detached n k) i ≡ Some k =
-      ap (get (insert m.detached n k)) z ∙ get_insert_same m.detached n k in
-      let c : get m.linked i ≡ Some k = ap (get m.linked) z ∙ e in
-      ap (λ o. or_else o (get (insert m.detached n k) i)) a ∙ b
-      ∙ sym (ap (λ o. or_else o (get m.detached i)) c)
-  | inr z ↦
-      ap (λ o. or_else o (get (insert m.detached n k) i)) (get_remove_other m.linked n i z)
-      ∙ ap (or_else (get m.linked i)) (get_insert_other m.detached n k i z)
-]
-
--- a node that is still linked is another one, and was linked
-pub still_linked : (m : Table) (n i : ℕ) (k : ℕ × List (ℕ × ℕ)) → get (remove m.linked n) i ≡ Some k →
-    (i ≢ n) × (get m.linked i ≡ Some k)
-still_linked m n i k e = elim (cases_eq i n) [
-  | inl z ↦ absurd (none-some k (sym (get_remove_same m.linked n) ∙ ap (get (remove m.linked n)) (sym z) ∙ e))
-  | inr z ↦ (z, sym (get_remove_other m.linked n i z) ∙ e)
-]
-
 -- what is not above the moved node
-
--- what stands strictly below a place that is not above the moved node is not above it either
-pub settled_below : (m : Table) → AtMostOnce m.vtree → (p q : ℕ) → IsSettled m p → IsUnder m.vtree q p → p ≢ q →
-    IsSettled m q
-settled_below m once p q s u d y e = go (s y e)
-  where
-    go : (y ≡ p) ⊎ (¬ IsUnder m.vtree y p) → (y ≡ q) ⊎ (¬ IsUnder m.vtree y q)
-    go (inl z) =
-        inr (λ w. under_apart m.vtree once q p u (subst (λ k. IsUnder m.vtree k q) z w) (λ k. d (sym k)))
-    go (inr n) = inr (λ w. n (under_trans m.vtree once y q p w u))
 
 -- the nodes that stay as they are shown: not the detached one, and not above the moved node
 abbrev StaysShown : Table → ℕ → ℕ → Type 0
@@ -88,18 +53,18 @@ detached_on m0 m x h v num g n k e top early old =
       literals = g.literals;
       moving = g.moving;
       began = g.began;
-      kept = λ i a b. subst IsSome (sym (detached_keys m n k e i)) (g.kept i a b);
-      value = λ i u l f. g.value i u l (sym (detached_keys m n k e i) ∙ f);
-      whole = λ i u l f. g.whole i u l (sym (detached_keys m n k e i) ∙ f);
+      kept = λ i a b. subst IsSome (sym (keys_same m n k e i)) (g.kept i a b);
+      value = λ i u l f. g.value i u l (sym (keys_same m n k e i) ∙ f);
+      whole = λ i u l f. g.whole i u l (sym (keys_same m n k e i) ∙ f);
       placed = λ i u l f. g.placed i u l (still_linked m n i (u, l) f).1;
       settled = λ i u l f s. settled i u l (still_linked m n i (u, l) f) s;
       above = λ i u l f s. g.above i u l (still_linked m n i (u, l) f).1 s;
-      lists = λ i u p l old f o d. g.lists i u p l old (sym (detached_keys m n k e i) ∙ f) o d;
+      lists = λ i u p l old f o d. g.lists i u p l old (sym (keys_same m n k e i) ∙ f) o d;
       free = λ a b. absurd (early a b);
-      new_below = λ i u l f o. g.new_below i u l (sym (detached_keys m n k e i) ∙ f) o;
+      new_below = λ i u l f o. g.new_below i u l (sym (keys_same m n k e i) ∙ f) o;
       new_linked = λ a i d. new_linked a i d (cases_eq i n);
       apart = λ a b ha hb same.
-          g.apart a b (subst IsSome (detached_keys m n k e a) ha) (subst IsSome (detached_keys m n k e b) hb) same;
+          g.apart a b (subst IsSome (keys_same m n k e a) ha) (subst IsSome (keys_same m n k e b) hb) same;
       roots = g.roots;
     }
   where

@@ -24,7 +24,7 @@ use Rattle.sd_manager.proofs.Reading.{linked_key}
 use Rattle.sd_move.specs.Moving.{Progress, IsNew, MoveInProgress}
 use Rattle.sd_move.specs.Steps.{CanDetachAt, AreDetached, CanLinkWith, CanLinkAll, AreLinkedAt}
 use Rattle.sd_move.proofs.DetachedAll.{settled_same}
-use Rattle.sd_move.proofs.DetachedOn.{settled_below}
+use Rattle.sd_manager.proofs.DetachedFrom.{settled_below}
 
 -- a number is in a list or not
 pub has_or_not : (n : ℕ) (ns : List ℕ) → IsMember n ns ⊎ (¬ IsMember n ns)

@@ -1,10 +1,9 @@
 -- The list of a node: it stays, it is read pair by pair, and lists are made of what stands in it.
-use Rattle.std.proofs.Common.{◌≡◌, inl, inr, ℕ, ◌+◌, ◌-◌, ◌≤◌, Bool, true, false, ◌&&◌, ◌||◌, List, [], ◌∷◌}
+use Rattle.std.proofs.Common.{◌≡◌, inl, inr, ℕ, ◌+◌, ◌-◌, ◌≤◌, Bool, true, false, ◌&&◌, ◌||◌, List, []}
 use Rattle.std.proofs.Common.{length, drop, Option, Some, None, refl, sym, ◌∙◌, ap, subst, arith}
 use Rattle.std.proofs.Common.{slice_get}
 use Rattle.std.specs.FinMap.{get}
-use Rattle.std.proofs.lemmas.List.{at_drop_more, at_drop_all}
-use Rattle.std.proofs.lemmas.Option.{slice_get_within, get_or_from_slice_get}
+use Rattle.std.proofs.lemmas.List.{at_drop_all}
 use Rattle.sd_vtree.specs.Numbered.{or_else}
 use Rattle.sd_model.specs.Diagram.{Diagram, meaning}
 use Rattle.sd_laws.proofs.Lists.{all_at}
@@ -16,14 +15,11 @@ use Rattle.sd_manager.specs.Views.{pairs_at, view_of}
 use Rattle.sd_manager.specs.declared.view.View.{View}
 use Rattle.sd_manager.specs.declared.view.View.TheVariants.{Constant as ConstantView, Literal as LiteralView}
 use Rattle.sd_manager.specs.declared.view.View.TheVariants.{Decomposition as DecompositionView}
-use Rattle.sd_manager.proofs.Extending.{extends_on}
 use Rattle.sd_manager.proofs.Reading.{among_at, linked_key, detached_key, pairs_node, view_node}
 use Rattle.sd_manager.proofs.Holding.{some_value}
-use Rattle.sd_apply.specs.Growing.{GrowsStrictlyBelow}
 use Rattle.sd_apply.specs.Places.{IsBelow, IsNodeUnder}
 use Rattle.sd_apply.specs.Partitions.{IsPartitionOf, ExpandsAt}
 use Rattle.sd_apply.proofs.AtNode.{partition_of_on}
-use Rattle.sd_apply.proofs.Growing.{strictly_both}
 use Rattle.sd_apply.proofs.Listed.{node_on}
 use Rattle.sd_move.specs.Rewriting.{AreBelow}
 
@@ -41,14 +37,6 @@ pub expanded_then : (m m1 m2 : Table) → Extends m m1 → (p b : ℕ) (l k : Li
     IsNodeUnder m p b d → ExpandsAt m1 m2 p b l → k ≡ l → IsPartitionOf m2 p k (meaning d)
 expanded_then m m1 m2 x p b l k d node h same =
     subst (λ q. IsPartitionOf m2 p q (meaning d)) (sym same) (h.each d (node_on m m1 x p b d node))
-
--- three steps one after the other
-pub extends_three : (a b c d : Table) → Extends a b → Extends b c → Extends c d → Extends a d
-extends_three a b c d x y z = extends_on a c d (extends_on a b c x y) z
-
-pub strictly_three : (a b c d : Table) (p : ℕ) → Extends b c → Extends c d → GrowsStrictlyBelow a b p →
-    GrowsStrictlyBelow b c p → GrowsStrictlyBelow c d p → GrowsStrictlyBelow a d p
-strictly_three a b c d p x y g h k = strictly_both a c d p y (strictly_both a b c p x g h) k
 
 -- the list of a node
 
@@ -75,12 +63,6 @@ list_stays a b ta tb e c node low = go node
         let code : c ≡ 2050 + (c - 2050) = omega (arith, low) in
         pairs_node b c (c - 2050) k.0 code (key_stays a b tb e (c - 2050) k.0 k.1)
         ∙ sym (pairs_node a c (c - 2050) k.0 code k.1)
-
--- the list from an index on begins with the pair there
-pub drop_pair : (l : List (ℕ × ℕ)) (i : ℕ) (e : ℕ × ℕ) → slice_get l i ≡ Some e → drop i l ≡ e ∷ drop (i + 1) l
-drop_pair l i e at =
-    at_drop_more (λ k. k) l i e (slice_get_within l i e at)
-    ∙ ap (λ (y : ℕ × ℕ). y ∷ drop (i + 1) l) (get_or_from_slice_get l i e e at)
 
 pub or_assoc : (x y z : Bool) → ((x || y) || z) ≡ (x || (y || z))
 or_assoc true y z = refl

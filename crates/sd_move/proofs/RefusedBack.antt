@@ -1,15 +1,13 @@
 -- A move that is refused can go back to the table at which it began.
-use Rattle.std.proofs.Common.{◌≡◌, ◌⊎◌, inl, inr, ℕ, ◌+◌, List, [], ◌∷◌, Option, Some, None, refl, sym, ◌∙◌, ap, subst}
+use Rattle.std.proofs.Common.{◌≡◌, ◌⊎◌, inl, inr, ℕ, ◌+◌, List, [], Option, Some, None, refl, sym, ◌∙◌, ap, subst}
 use Rattle.std.specs.List.{AllByRecursion}
 use Rattle.std.specs.Option.{IsSome}
-use Rattle.std.specs.Ordering.{nat_cmp}
-use Rattle.std.specs.FinMap.{FinMap, get, empty, remove}
+use Rattle.std.specs.FinMap.{get, empty}
 use Rattle.std.proofs.lemmas.Option.{same_Some}
 use Rattle.sd_model.specs.declared.trees.Move.{Move}
 use Rattle.sd_model.specs.Tree.{AreDistinct}
 use Rattle.sd_vtree.specs.NumberedMoves.{moved_number}
 use Rattle.sd_runs.specs.Arena.{IsMember}
-use Rattle.sd_runs.proofs.Maps.{get_remove_other}
 use Rattle.sd_laws.specs.Turned.{lower_of}
 use Rattle.sd_laws.specs.Values.{Valuation, StandsIn, AreOrderly, GivesLiterals, ShowsValue}
 use Rattle.sd_laws.proofs.Lists.{all_weaker}
@@ -24,31 +22,13 @@ use Rattle.sd_manager.proofs.Reading.{node_of_code, linked_key}
 use Rattle.sd_manager.proofs.Valid.{nothing}
 use Rattle.sd_sweep.specs.Reached.{KeepsReached}
 use Rattle.sd_move.specs.Moving.{Progress, no_progress, IsNew, IsBelowNode, MoveInProgress}
-use Rattle.sd_move.specs.Journal.{Named, journal_entry, with_start, starts_of, without_runs, IsOwnRun}
+use Rattle.sd_move.specs.Journal.{Named, journal_entry, starts_of, without_runs}
 use Rattle.sd_move.specs.GoingBack.{ToTable, IsRightEntry, AreWellWanted, CanGoBack, HasGoneBack, numbers_of}
 use Rattle.sd_move.proofs.KnownAtEnd.{stands_there, base_or_node, key_linked, known_at_end}
 use Rattle.sd_move.proofs.BeginAndEnd.{begun}
+use Rattle.sd_move.proofs.Recorded.{member_own, without_other}
 
 -- runs
-
--- a run that is none of these is loose without them
-without_other : (loose : FinMap nat_cmp (List (ℕ × ℕ))) (starts : List ℕ) (s : ℕ) → ¬ IsMember s starts →
-    get (without_runs loose starts) s ≡ get loose s
-without_other loose [] s out = refl
-without_other loose (start ∷ starts) s out =
-    without_other (remove loose start) starts s (λ m. out (inr m))
-    ∙ get_remove_other loose start s (λ z. out (inl (sym z)))
-
--- the start of one of the entries' runs is that of an own run
-start_own : (es : List Named) (s : ℕ) → IsMember s (starts_of es) → IsOwnRun es s
-start_own [] s m = absurd m
-start_own (e ∷ es) s m = go e.run refl m (start_own es s)
-  where
-    go : (o : Option (ℕ × ℕ)) → e.run ≡ o → IsMember s (with_start o (starts_of es)) →
-        (IsMember s (starts_of es) → IsOwnRun es s) → IsOwnRun (e ∷ es) s
-    go None none m rest = inr (rest m)
-    go (Some run) some (inl z) rest = inl (run.1, some ∙ ap (λ (k : ℕ). Some (k, run.1)) z)
-    go (Some run) some (inr m) rest = inr (rest m)
 
 -- the table that is gone back to
 
@@ -114,7 +94,7 @@ module _ (m0 : Table) (t : IsTable m0) (still : m0.moving ≡ None) where
               there_linked n (t.closed_roots root (2050 + n) (ap (λ r. get r root) (sym roots) ∙ e));
           runs = λ s n l e out stands. there_linked n (stands_there m0 (2050 + n) l (t.closed_runs s l
               (ap (λ r. get r s) (sym loose)
-              ∙ without_other m.loose (starts_of named) s (λ i. out (start_own named s i)) ∙ e)) stands);
+              ∙ without_other m.loose (starts_of named) s (λ i. out (member_own named s i)) ∙ e)) stands);
           wanted = well_wanted;
           entries = entries;
           numbers_once = numbers;

@@ -1,26 +1,14 @@
 -- A move that went back ends: what is so then.
-use Rattle.std.proofs.Common.{◌≡◌, ◌⊎◌, inl, inr, ℕ, ◌+◌, ◌≤◌, ◌<◌, true, false, Bool, nat_lt, if◌then◌else◌, List, []}
-use Rattle.std.proofs.Common.{Some, refl, sym, ◌∙◌, ap, subst, arith}
-use Rattle.std.proofs.lemmas.Bool.Decides.{nat_tests}
+use Rattle.std.proofs.Common.{◌≡◌, ◌⊎◌, inl, inr, ℕ, ◌≤◌, ◌<◌, List, []}
+use Rattle.std.proofs.Common.{Some, refl, sym, ◌∙◌, ap, subst}
 use Rattle.std.specs.FinMap.{get, empty}
 use Rattle.sd_manager.specs.Table.{Table}
 use Rattle.sd_manager.specs.Valid.{IsTable}
-use Rattle.sd_manager.specs.Moving.{at_rest, IsLater, next_epoch}
+use Rattle.sd_manager.specs.Moving.{at_rest, IsLater}
 use Rattle.sd_manager.proofs.Valid.{nothing}
 use Rattle.sd_move.specs.GoingBack.{Return, IsWantedBy, key_wanted, IsReturning, HasGoneBack}
+use Rattle.sd_move.proofs.MoveEnd.{next_later}
 use Rattle.sd_move.proofs.Returning.{linked_or_detached, wanted_there, linked_wanted, tree_now}
-
--- the next epoch is a later one, or the last
-next_later : (e : ℕ) → e ≤ 18446744073709551615 → (e < next_epoch e) ⊎ (next_epoch e ≡ 18446744073709551615)
-next_later e small = go (nat_lt e 18446744073709551615) refl
-  where
-    go : (b : Bool) → nat_lt e 18446744073709551615 ≡ b →
-        (e < next_epoch e) ⊎ (next_epoch e ≡ 18446744073709551615)
-    go true z =
-        let next : next_epoch e ≡ e + 1 = ap (λ b. if b then e + 1 else e) z in inl (omega (arith, next))
-    go false z =
-        let last : e ≡ 18446744073709551615 = grind (arith, nat_tests, z, small) in
-        inr (ap (λ b. if b then e + 1 else e) z ∙ last)
 
 module _ (r : Return) (now : Table) (s : IsReturning r now [] []) (t : IsTable now) (none : now.detached ≡ empty) where
   -- each wanted node is linked under the key that it gets

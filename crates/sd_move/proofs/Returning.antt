@@ -24,7 +24,7 @@ use Rattle.sd_move.specs.Journal.{Named, journal_entry, key_before}
 use Rattle.sd_move.specs.GoingBack.{IsTurnedPlace, IsRightEntry, Return, IsWantedBy}
 use Rattle.sd_move.specs.GoingBack.{key_wanted, IsReturning}
 use Rattle.sd_move.proofs.UndoKept.{entry_found}
-use Rattle.sd_move.proofs.DetachedOn.{settled_below}
+use Rattle.sd_manager.proofs.DetachedFrom.{settled_below}
 use Rattle.sd_move.proofs.BegunAt.{settled_here}
 use Rattle.sd_move.proofs.TurnedPlaces.{AreTurnedPlaces, turned_places}
 

@@ -18,7 +18,8 @@ use Rattle.sd_apply.specs.declared.recent.Recent.{Recent}
 use Rattle.sd_apply.proofs.RightEntries.{knows_when}
 use Rattle.sd_move.specs.Journal.{Named}
 use Rattle.sd_move.specs.Moving.{Progress}
-use Rattle.sd_move.specs.Rewriting.{AreRewritten, HasRewritten, CanRewriteAll, MayRewriteAll, GoesOn, numbers_of}
+use Rattle.sd_move.specs.GoingBack.{numbers_of}
+use Rattle.sd_move.specs.Rewriting.{AreRewritten, HasRewritten, CanRewriteAll, MayRewriteAll, GoesOn}
 use Rattle.sd_move.proofs.RewrittenAll.{rewritten_both, goes_on_both, goes_on_still}
 
 -- what was answered

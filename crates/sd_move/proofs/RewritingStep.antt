@@ -263,8 +263,3 @@ pub still_answer : {E : Type 0} (m m1 b : Table) (x n : ℕ) → IsTable m → I
 still_answer m m1 b x n t t1 e grows (Ok run) is = tt
 still_answer m m1 b x n t t1 e grows (Err y) is = λ m0 h v rest c.
     subst (λ (u : Table). GoesOn m0 m u x h v (n ∷ rest)) (sym is) (goes_still m0 m m1 x h v n rest t t1 c e grows)
-
--- what is so at any rate is so at an error
-pub where_err : {X E P : Type 0} (r : Result X E) → P → OnErr r P
-where_err (Ok y) p = tt
-where_err (Err y) p = p

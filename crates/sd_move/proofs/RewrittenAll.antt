@@ -18,7 +18,9 @@ use Rattle.sd_apply.specs.Growing.{GrowsStrictlyBelow}
 use Rattle.sd_apply.proofs.Growing.{strictly_under}
 use Rattle.sd_move.specs.Journal.{Named, IsOwnRun, starts_of, with_start}
 use Rattle.sd_move.specs.Moving.{Progress, IsBelowNode}
-use Rattle.sd_move.specs.Rewriting.{WasRewritten, numbers_of, AreRewritten, CanRewriteAll, GoesOn}
+use Rattle.sd_move.specs.GoingBack.{numbers_of}
+use Rattle.sd_move.specs.Rewriting.{WasRewritten, AreRewritten, CanRewriteAll, GoesOn}
+use Rattle.sd_move.proofs.Recorded.{member_own}
 
 -- lists of entries
 
@@ -32,7 +34,7 @@ member_either (e ∷ es) fs n (inr m) = elim (member_either es fs n m) [
   | inr k ↦ inr k
 ]
 
-member_first : (es fs : List Named) (n : ℕ) → IsMember n (numbers_of es) → IsMember n (numbers_of (es ++ fs))
+pub member_first : (es fs : List Named) (n : ℕ) → IsMember n (numbers_of es) → IsMember n (numbers_of (es ++ fs))
 member_first (e ∷ es) fs n (inl z) = inl z
 member_first (e ∷ es) fs n (inr m) = inr (member_first es fs n m)
 member_first [] fs n m = absurd m
@@ -98,17 +100,6 @@ starts_both (e ∷ es) fs = go e.run (starts_both es fs)
         with_start o (starts_of (es ++ fs)) ≡ with_start o (starts_of es) ++ starts_of fs
     go None more = more
     go (Some r) more = ap (λ l. r.0 ∷ l) more
-
--- a start of the entries is that of a run of theirs
-own_member : (es : List Named) (s : ℕ) → IsMember s (starts_of es) → IsOwnRun es s
-own_member [] s m = absurd m
-own_member (e ∷ es) s m = go (own_member es s) e.run refl m
-  where
-    go : (IsMember s (starts_of es) → IsOwnRun es s) → (o : Option (ℕ × ℕ)) → e.run ≡ o →
-        IsMember s (with_start o (starts_of es)) → IsOwnRun (e ∷ es) s
-    go more None k m = inr (more m)
-    go more (Some r) k (inl z) = inl (r.1, k ∙ ap (λ (i : ℕ). Some (i, r.1)) z)
-    go more (Some r) k (inr m) = inr (more m)
 
 -- lists without a common member, each without copies, have none together
 distinct_both : (xs ys : List ℕ) → AreDistinct xs → AreDistinct ys →
@@ -220,8 +211,8 @@ module _ (a b c : Table) (x : ℕ) (es fs : List Named) (g : AreRewritten a b x 
             ∙ g.waiting n (λ m. out (member_first es fs n m));
         runs_once = subst AreDistinct (sym (starts_both es fs))
             (distinct_both (starts_of es) (starts_of fs) g.runs_once h.runs_once
-            (λ s m k. not_both_ways (get b.loose s) (own_loose a b x es s g.each (own_member es s m))
-            (own_fresh b c x fs s h.each (own_member fs s k))));
+            (λ s m k. not_both_ways (get b.loose s) (own_loose a b x es s g.each (member_own es s m))
+            (own_fresh b c x fs s h.each (member_own fs s k))));
         other_runs = λ s out. h.other_runs s (λ o. out (own_second es fs s o))
             ∙ g.other_runs s (λ o. out (own_first es fs s o));
       }

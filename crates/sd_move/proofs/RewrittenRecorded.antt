@@ -15,7 +15,8 @@ use Rattle.sd_manager.specs.Valid.{IsTable}
 use Rattle.sd_manager.proofs.Reading.{linked_key, detached_key}
 use Rattle.sd_move.specs.Journal.{Named, journal_entry, key_before, with_start, starts_of, without_runs}
 use Rattle.sd_move.specs.Recorded.{IsRecorded, AreRecorded}
-use Rattle.sd_move.specs.Rewriting.{WasRewritten, numbers_of, AreRewritten}
+use Rattle.sd_move.specs.GoingBack.{numbers_of}
+use Rattle.sd_move.specs.Rewriting.{WasRewritten, AreRewritten}
 use Rattle.sd_move.proofs.LinkedAgain.{has_or_not}
 use Rattle.sd_move.proofs.Recorded.{own_entry, member_own, without_other}
 use Rattle.sd_move.proofs.Returning.{linked_or_detached}

@@ -18,7 +18,8 @@ use Rattle.sd_move.specs.Journal.{Named}
 use Rattle.sd_move.specs.Moving.{no_progress, HasBegun}
 use Rattle.sd_move.specs.OnTheWay.{IsOnTheWay}
 use Rattle.sd_move.specs.Recorded.{AreRecorded}
-use Rattle.sd_move.specs.Rewriting.{CanRewriteAll, HasRewritten, GoesOn, numbers_of}
+use Rattle.sd_move.specs.GoingBack.{numbers_of}
+use Rattle.sd_move.specs.Rewriting.{CanRewriteAll, HasRewritten, GoesOn}
 use Rattle.sd_move.specs.Sorting.{rotation_of, place_entry, CanRotate, HasRotated}
 use Rattle.sd_move.proofs.RewrittenRecorded.{KeepLists, rewritten_recorded, first_distinct}
 use Rattle.sd_move.proofs.RotatedSort.{rotated_only}

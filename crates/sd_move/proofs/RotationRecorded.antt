@@ -18,13 +18,13 @@ use Rattle.sd_manager.proofs.Reading.{linked_key, detached_key}
 use Rattle.sd_model.specs.declared.trees.Side.{Side}
 use Rattle.sd_move.specs.Journal.{Named, journal_entry, without_runs}
 use Rattle.sd_move.specs.Recorded.{IsRecorded, AreRecorded}
-use Rattle.sd_move.specs.Rewriting.{numbers_of}
+use Rattle.sd_move.specs.GoingBack.{numbers_of}
 use Rattle.sd_move.specs.Sorting.{place_entry, AreSorted, CanRotate, HasRotated}
 use Rattle.sd_move.proofs.KnownAtEnd.{key_linked}
 use Rattle.sd_move.proofs.LinkedAgain.{has_or_not}
 use Rattle.sd_move.proofs.RewrittenRecorded.{KeepLists, none_started, distinct_both, unnamed_apart, first_distinct}
 use Rattle.sd_move.proofs.Waiting.{times_permuted, member_times, times_member, once_times, times_once}
-use Rattle.sd_move.proofs.RewrittenAll.{member_second}
+use Rattle.sd_move.proofs.RewrittenAll.{member_first, member_second}
 
 -- the entries of nodes that keep their lists
 
@@ -47,12 +47,6 @@ member_placed p n ns m = subst (IsMember n) (numbers_placed p ns) m
 
 placed_member : (p n : ℕ) (ns : List ℕ) → IsMember n ns → IsMember n (numbers_of (map (place_entry p) ns))
 placed_member p n ns m = subst (IsMember n) (sym (numbers_placed p ns)) m
-
--- a member of one list is one of both
-member_left : (es fs : List Named) (n : ℕ) → IsMember n (numbers_of es) → IsMember n (numbers_of (es ++ fs))
-member_left [] fs n m = absurd m
-member_left (e ∷ es) fs n (inl z) = inl z
-member_left (e ∷ es) fs n (inr m) = inr (member_left es fs n m)
 
 -- what holds of the nodes of two places holds of their entries
 all_placed : (P : Named → Type 0) (p q : ℕ) (ns ms : List ℕ) → ((n : ℕ) → IsMember n ns → P (place_entry p n)) →
@@ -208,7 +202,7 @@ module _ (old m new : Table) (side : Side) (x w : ℕ) (upper lower left : List 
       key_at new n ≡ Some k
   unnamed n k none e = elim (has_or_not n lower) [
     | inl z ↦ absurd (unnamed_apart named_now n none
-        (member_left (map (place_entry w) lower) (map (place_entry x) r.sorted.moved) n (placed_member w n lower z)))
+        (member_first (map (place_entry w) lower) (map (place_entry x) r.sorted.moved) n (placed_member w n lower z)))
     | inr out ↦ elim (has_or_not n upper) [
       | inr out' ↦ beside_same n out out' ∙ linked_key (moving_at old x) n k e
       | inl z ↦ here z (sorts n z)

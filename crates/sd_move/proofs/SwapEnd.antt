@@ -14,7 +14,8 @@ use Rattle.sd_manager.proofs.Reading.{linked_key}
 use Rattle.sd_move.specs.Journal.{Named}
 use Rattle.sd_move.specs.Moving.{no_progress}
 use Rattle.sd_move.specs.Recorded.{AreRecorded}
-use Rattle.sd_move.specs.Rewriting.{CanRewriteAll, HasRewritten, GoesOn, numbers_of}
+use Rattle.sd_move.specs.GoingBack.{numbers_of}
+use Rattle.sd_move.specs.Rewriting.{CanRewriteAll, HasRewritten, GoesOn}
 use Rattle.sd_move.specs.Swapping.{HasSwapped}
 use Rattle.sd_move.proofs.KnownAtEnd.{key_linked}
 use Rattle.sd_move.proofs.SwapWaits.{was_linked, may_rewrite}

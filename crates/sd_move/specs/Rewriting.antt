@@ -1,6 +1,6 @@
 -- Nodes that wait in a move for another list, for the contracts of private functions: what rewriting them asks, and
 -- what it does to the table.
-use Rattle.std.specs.Prelude.{◌≡◌, ◌⊎◌, ℕ, ◌+◌, ◌≤◌, false, List, ◌++◌, map, length, Some, None}
+use Rattle.std.specs.Prelude.{◌≡◌, ◌⊎◌, ℕ, ◌+◌, ◌≤◌, false, List, ◌++◌, length, Some, None}
 use Rattle.std.specs.List.{AllByRecursion}
 use Rattle.std.specs.Option.{IsSome}
 use Rattle.std.specs.FinMap.{get}
@@ -12,6 +12,7 @@ use Rattle.sd_laws.specs.Shown.{Lookup, Keeps}
 use Rattle.sd_laws.specs.Values.{Valuation, IsTwoSided, ShowsValue, KeepsValues}
 use Rattle.sd_manager.specs.Table.{Table, key_at}
 use Rattle.sd_apply.specs.Places.{IsBelow}
+use Rattle.sd_move.specs.GoingBack.{numbers_of}
 use Rattle.sd_move.specs.Journal.{Named, IsOwnRun, starts_of}
 use Rattle.sd_move.specs.Moving.{Progress, IsNew, HasNumber, IsBelowNode, MoveInProgress}
 
@@ -61,10 +62,6 @@ pub record WasRewritten (old new : Table) (place : ℕ) (e : Named) : Type 0 whe
   pub run : e.run ≡ Some (start, length former)
   pub fresh : get old.loose start ≡ None
   pub loose : get new.loose start ≡ Some former
-
--- the numbers that entries name
-abbrev pub numbers_of : List Named → List ℕ
-numbers_of entries = map (λ (e : Named). e.number) entries
 
 -- The nodes of the entries were rewritten, in a move at the place. Each other node stayed as it was, and those that are
 -- new stand below the place.
