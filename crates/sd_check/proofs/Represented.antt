@@ -1,6 +1,6 @@
 -- The diagram that a node of a file stands for where it breaks no rule and its children stand for diagrams.
-use Rattle.std.proofs.Common.{◌≡◌, ℕ, zero, suc, ◌+◌, ◌<◌, ◌≤◌, Bool, true, false, List, [], ◌∷◌, length}
-use Rattle.std.proofs.Common.{Option, Some, None, slice_index_or, refl, sym, ◌∙◌, ap, subst, arith, option_and_then, ℤ}
+use Rattle.std.proofs.Common.{◌≡◌, ℕ, zero, suc, ◌<◌, ◌≤◌, Bool, true, false, List, length}
+use Rattle.std.proofs.Common.{Option, Some, None, refl, sym, ◌∙◌, ap, subst, arith, option_and_then, ℤ}
 use Rattle.std.proofs.Common.{unsigned_abs, pos, negsuc, inl, inr}
 use Rattle.std.proofs.lemmas.Bool.{cases_eq}
 use Rattle.std.specs.List.{list_all}
@@ -20,9 +20,10 @@ use Rattle.sd_laws.proofs.Numbers.{literal_canonical}
 use Rattle.sd_laws.proofs.Pairs.{subs_pairs, answers_value}
 use Rattle.sd_laws.proofs.Places.{part_apart, canonical_lifts}
 use Rattle.sd_file.specs.Built.{value_at, values_of}
-use Rattle.sd_file.specs.Files.{FitsAt, FitFrom, IsFile, no_entry, entry_at}
-use Rattle.sd_file.specs.Reads.{Node as NodeLine, Entry, File}
+use Rattle.sd_file.specs.Files.{FitsAt, IsFile, entry_at}
+use Rattle.sd_file.specs.Reads.{Node as NodeLine, File}
 use Rattle.sd_file.proofs.Values.{value_there}
+use Rattle.sd_file.proofs.FitLaws.{fit_at}
 use Rattle.sd_check.specs.declared.rules.Rule.{Rule}
 use Rattle.sd_check.specs.declared.rules.Rule.TheVariants.{Vtree, Prime, Sub, Count, Overlap, Cover, Subs, Trim}
 use Rattle.sd_check.specs.Rules.{Places, Inner, inner_at, inner_named, node_at, ElementsBreak}
@@ -34,22 +35,13 @@ use Rattle.sd_check.proofs.Elements.{false_else, elements_partition, subs_apart,
 
 -- ---- nodes of a file
 
--- what fits at each number does at one
-fits_from : (v index : ℕ) (es : List Entry) (i : ℕ) → FitFrom v index es → i < length es →
-    FitsAt v (index + i) (slice_index_or es i no_entry).node
-fits_from v index [] i fit below = absurd (omega arith)
-fits_from v index (e ∷ es) zero fit below = subst (λ n. FitsAt v n e.node) (omega arith) fit.0
-fits_from v index (e ∷ es) (suc i) fit below =
-    subst (λ n. FitsAt v n (slice_index_or es i no_entry).node) (omega arith)
-    (fits_from v (1 + index) es i fit.1 (omega (arith, below)))
-
 -- a node that is known fits behind the earlier ones
 pub node_fits : (f : File) (i : ℕ) (node : NodeLine) → IsFile f → i < length f.nodes → node_at f i ≡ node →
     FitsAt f.variables i node
 node_fits f i node is below e =
     subst (FitsAt f.variables i) e
     (subst (λ n. FitsAt f.variables n (entry_at f i).node) (omega arith)
-    (fits_from f.variables 0 f.nodes i is.fit below))
+    (fit_at f.variables 0 f.nodes i is.fit below))
 
 -- and has the value of what it is
 pub value_of_node : (f : File) (i : ℕ) (node : NodeLine) (a : List Bool) → IsFile f → i < length f.nodes →
