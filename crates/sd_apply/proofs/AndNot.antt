@@ -1,6 +1,6 @@
 -- The difference of two nodes: what needs no node, what the tables know, and the answer from the halves or from a
 -- negation.
-use Rattle.std.proofs.Common.{◌≡◌, ◌∙◌, sym, ap, subst, refl, ℕ, ◌+◌, ◌/◌, ◌≤◌, ◌<◌, Bool, true, false, not, ◌&&◌}
+use Rattle.std.proofs.Common.{◌≡◌, ◌∙◌, sym, ap, subst, refl, ℕ, ◌/◌, ◌≤◌, ◌<◌, Bool, true, false, not, ◌&&◌}
 use Rattle.std.proofs.Common.{cond, List, ◌⊎◌, inl, inr, Some, None, arith, Option}
 use Rattle.std.specs.FinMap.{get}
 use Rattle.std.specs.Map.{lookup}
