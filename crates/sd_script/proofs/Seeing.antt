@@ -1,6 +1,6 @@
--- The numbers of words, and how many words there are.
-use Rattle.std.proofs.Common.{◌≡◌, ℕ, ◌+◌, ◌<◌, ◌≤◌, Bool, true, false, List, [], ◌∷◌, ◌++◌, length}
-use Rattle.std.proofs.Common.{refl, ap, sym, ◌∙◌, map, take, get_or, arith, if◌then◌else◌, length-append}
+-- The numbers of words, one after another.
+use Rattle.std.proofs.Common.{◌≡◌, ℕ, ◌+◌, ◌<◌, Bool, true, false, List, [], ◌∷◌, ◌++◌, length}
+use Rattle.std.proofs.Common.{refl, ap, sym, ◌∙◌, map, take, get_or, arith}
 use Rattle.std.proofs.lemmas.List.{map-append}
 use Rattle.std.proofs.lemmas.Grind.{take_at_read}
 use Rattle.std.specs.Prelude.{bytes_eq}
@@ -25,10 +25,6 @@ within : (words : List Word) (w : Word)
     → list_any (bytes_eq w) words ≡ true → number_of_word words w < length words
 unfolding number_of_word
 within words w h = index_within (bytes_eq w) words h
-
--- that of a word that was just seen
-pub within_one : (words : List Word) (a : Word) → number_of_word (see words a) a < length (see words a)
-within_one words a = within (see words a) a (has_see words a)
 
 -- a word that is there stays, with more of them
 pub has_see_all : (words more : List Word) (w : Word) → list_any (bytes_eq w) words ≡ true
@@ -112,20 +108,3 @@ module _ {R : Type 0} (view : R → Word) where
       ∙ sym (numbers_more old words w)
       ∙ ap (λ l. map (number_of_word l) (words ++ w ∷ [])) (sym whole)
       ∙ ap (map (number_of_word u)) (sym (up_to_next refs i d h))
-
--- ---- more words are no fewer
-
--- one more word
-pub see_least : (words : List Word) (w : Word) → length words ≤ length (see words w)
-unfolding see
-see_least words w = by (list_any (bytes_eq w) words)
-  where
-    by : (b : Bool) → length words ≤ length (if b then words else words ++ w ∷ [])
-    by true = omega arith
-    by false = omega (arith, length-append words (w ∷ []))
-
--- more words are no less
-pub length_see_least : (words more : List Word) → length words ≤ length (see_all words more)
-length_see_least words [] = omega arith
-length_see_least words (w ∷ more) =
-    omega (arith, see_least words w, length_see_least (see words w) more)
