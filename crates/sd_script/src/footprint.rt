@@ -104,13 +104,13 @@ pub(crate) fn footprint_of(action: &Action) -> Footprint<'_>
 {
     use Uses::{All, Nothing, One, Two};
     match action {
-        Action::Input(n) => Footprint::using(Nothing).binding(*n),
+        Action::Input(n) | Action::Output(n, _) | Action::Constant(n, _) => {
+            Footprint::using(Nothing).binding(*n)
+        }
         Action::Load(n, _) => Footprint::using(Nothing).binding(*n).loading(),
-        Action::Output(n, _) => Footprint::using(Nothing).binding(*n),
         Action::Lit(n, l) => Footprint::using(Nothing)
             .binding(*n)
             .naming(l.unsigned_abs()),
-        Action::Constant(n, _) => Footprint::using(Nothing).binding(*n),
         Action::Binary(_, n, a, b) => Footprint::using(Two(*a, *b)).binding(*n),
         Action::Not(n, a) => Footprint::using(One(*a)).binding(*n),
         Action::Given(n, a, l) => Footprint::using(One(*a))
@@ -119,8 +119,7 @@ pub(crate) fn footprint_of(action: &Action) -> Footprint<'_>
         Action::Forget(n, a, x) => Footprint::using(One(*a)).binding(*n).naming(*x),
         Action::Drop(a) => Footprint::using(One(*a)).freeing(*a),
         Action::Same(a, b) => Footprint::using(Two(*a, *b)),
-        Action::Size(a) => Footprint::using(One(*a)),
-        Action::Value(a, _) => Footprint::using(One(*a)),
+        Action::Size(a) | Action::Value(a, _) => Footprint::using(One(*a)),
         Action::Write(names, file) => Footprint::using(All(names.as_slice())).writing(*file),
         Action::Vtree(file) => Footprint::using(Nothing).writing(*file),
         _ => Footprint::using(Nothing),

@@ -3,15 +3,13 @@
 ghost use Rattle.std.specs.Prelude.{◌≡◌};
 
 use std::alloc::{AllocError, AllocFailed};
-use thiserror::Error;
 
 /// Why there is no command, or no part of one.
-#[derive(Clone, Copy, Debug, Error)]
+#[derive(Clone, Copy)]
 pub(crate) enum Misread {
     /// The words are too few, too many or of a wrong form.
-    #[error("BadForm")]
     BadForm,
-    #[error("OutOfMemory")]
+    /// Out of memory, whatever the words.
     OutOfMemory,
 }
 
