@@ -1,6 +1,6 @@
 //! The commands of a text, line by line.
 
-ghost use Rattle.std.specs.Prelude.{◌≡◌, ◌≤◌, ◌<◌, ℕ, true, length, OnOk, option_to_list};
+ghost use Rattle.std.specs.Prelude.{◌≡◌, ◌≤◌, ◌<◌, ℕ, true, length, IfOk, OnOk, option_to_list};
 ghost use Rattle.std.specs.List.{list_any, list_all};
 ghost use Rattle.sd_base.specs.Views.{line_view};
 ghost use Rattle.sd_script.specs.Commands.{has, bound, written_files, loads};
@@ -8,7 +8,7 @@ ghost use Rattle.sd_script.specs.Commands as commands;
 ghost use Rattle.sd_script.specs.Read.{IsScript};
 ghost use Rattle.sd_script.specs.Scripts as texts;
 ghost use Rattle.sd_script.specs.Scripts.{Gives, empty};
-ghost use Rattle.sd_script.specs.Tables.{is_marked, table_words};
+ghost use Rattle.sd_script.specs.Tables.{is_marked};
 ghost use Rattle.sd_script.specs.Views.{uses_view};
 
 use crate::command::{Action, Command};
@@ -18,7 +18,7 @@ use crate::marks::Marks;
 use crate::misread::Misread;
 use crate::number::{formula_fits, numbers_fit, variable_fits};
 use crate::rest::Rest;
-use sd_base::Line;
+use sd_base::{Line, Name};
 use std::alloc::{AllocError, Global};
 
 const MAX_LINES: u32 = 100_000;
@@ -58,15 +58,19 @@ impl<'a> Reader<'a> {
         }
     }
 
-    /// The commands, and the names and files.
-    pub(crate) fn into_parts(self) -> (Vec<Command>, Rest<'a>)
-        ensures { script_view self.entry ≡ record {
-          commands = result.0.items;
-          names = table_words result.1.names;
-          files = table_words result.1.files;
-        } }
+    /// The names, and the files, in the order of their numbers.
+    pub(crate) fn texts(&self, alloc: Global) -> Result<(Vec<Name>, Vec<Name>), AllocError>
+        ensures names { IfOk result (λ (names, files). names.items ≡ (script_view self.now).names) }
+        ensures files { IfOk result (λ (names, files). files.items ≡ (script_view self.now).files) }
     {
-        (self.commands, self.rest)
+        Ok((self.rest.names.texts(alloc)?, self.rest.files.texts(alloc)?))
+    }
+
+    /// The commands, in the order of their lines.
+    pub(crate) fn into_commands(self) -> Vec<Command>
+        ensures { result.items ≡ (script_view self.entry).commands }
+    {
+        self.commands
     }
 
     /// Whether the name of a number is bound.

@@ -80,9 +80,8 @@ pub fn read_script(
     ensures within_limit { IfOk result (λ script. length script.commands ≤ 100000) }
 {
     let reader = read_lines(alloc, bytes, variables, outputs)?;
-    let (commands, rest) = reader.into_parts();
-    let names = rest.names.texts(alloc)?;
-    let files = rest.files.texts(alloc)?;
+    let (names, files) = reader.texts(alloc)?;
+    let commands = reader.into_commands();
     Ok(Script {
         commands,
         names,
