@@ -17,7 +17,8 @@ cut-requires-clause-place c =
 pub cut-requires-clause-cell : goal.cut-requires-clause-cell
 cut-requires-clause-cell c = (
   (λ _. true),
-  whole_cell_on c.args.m.now c.products_of.new.m c.products_of.ensures.step.table c.products_of.ensures.step.kept c.args.place
+  whole_cell_on c.args.m.now c.products_of.new.m c.products_of.ensures.step.table c.products_of.ensures.step.kept
+      c.args.place
       c.requires.place,
 )
 

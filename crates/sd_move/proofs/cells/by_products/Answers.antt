@@ -17,7 +17,8 @@ cut_in_turn-requires-clause-place c =
 pub cut_in_turn-requires-clause-cell : goal.cut_in_turn-requires-clause-cell
 cut_in_turn-requires-clause-cell c = (
   (λ _. true),
-  whole_cell_on c.args.m.now c.products_of.new.m c.products_of.ensures.step.table c.products_of.ensures.step.kept c.args.place
+  whole_cell_on c.args.m.now c.products_of.new.m c.products_of.ensures.step.table c.products_of.ensures.step.kept
+      c.args.place
       c.requires.place,
 )
 

@@ -52,7 +52,8 @@ pub rewrite-requires-clause-node : goal.rewrite-requires-clause-node
 rewrite-requires-clause-node c =
     let w = c.requires.may in
     subst IsSome (sym (waits_still w.1.0 c.args.m.now c.new_list.new.m c.args.place w.1.1 w.1.2 c.args.number w.0
-    c.requires.table c.new_list.ensures.step.table w.1.3 c.new_list.ensures.step.kept c.new_list.ensures.step.grown)) refl
+    c.requires.table c.new_list.ensures.step.table w.1.3 c.new_list.ensures.step.kept c.new_list.ensures.step.grown))
+    refl
 
 pub rewrite-requires-clause-fits : goal.rewrite-requires-clause-fits
 rewrite-requires-clause-fits c =
@@ -80,13 +81,15 @@ rewrite-requires-clause-absent c =
 pub returns-in_err-list-clause-err : goal.returns-in_err-list-clause-err
 returns-in_err-list-clause-err c =
     at_error c.from_residual.result
-    (grown_rewritten c.args.m.now c.new_list.new.m c.args.place c.new_list.ensures.step.table c.new_list.ensures.step.kept
+    (grown_rewritten c.args.m.now c.new_list.new.m c.args.place c.new_list.ensures.step.table
+    c.new_list.ensures.step.kept
     c.new_list.ensures.step.grown)
 
 pub returns-in_err-list-clause-still : goal.returns-in_err-list-clause-still
 returns-in_err-list-clause-still c =
     at_error c.from_residual.result (λ m0 h v rest can. goes_still m0 c.args.m.now c.new_list.new.m c.args.place h v
-    c.args.number rest c.requires.table c.new_list.ensures.step.table can c.new_list.ensures.step.kept c.new_list.ensures.step.grown)
+    c.args.number rest c.requires.table c.new_list.ensures.step.table can c.new_list.ensures.step.kept
+    c.new_list.ensures.step.grown)
 
 -- where the node was linked or refused
 
@@ -101,7 +104,8 @@ pub returns-clause-err : goal.returns-clause-err
 returns-clause-err c =
     on_err_weaker c.rewrite.result
     (λ same. subst (λ (u : Table). AreRewritten c.args.m.now u c.args.place []) (sym same)
-    (grown_rewritten c.args.m.now c.new_list.new.m c.args.place c.new_list.ensures.step.table c.new_list.ensures.step.kept
+    (grown_rewritten c.args.m.now c.new_list.new.m c.args.place c.new_list.ensures.step.table
+    c.new_list.ensures.step.kept
     c.new_list.ensures.step.grown)) c.rewrite.ensures.err
 
 pub returns-clause-going : goal.returns-clause-going
@@ -116,7 +120,8 @@ returns-clause-going c =
 pub returns-clause-still : goal.returns-clause-still
 returns-clause-still c =
     still_answer c.args.m.now c.new_list.new.m c.rewrite.new.self c.args.place c.args.number c.requires.table
-    c.new_list.ensures.step.table c.new_list.ensures.step.kept c.new_list.ensures.step.grown c.rewrite.result c.rewrite.ensures.err
+    c.new_list.ensures.step.table c.new_list.ensures.step.kept c.new_list.ensures.step.grown c.rewrite.result
+    c.rewrite.ensures.err
 
 pub returns-clause-knows : goal.returns-clause-knows
 returns-clause-knows c =
