@@ -4,11 +4,13 @@ use Rattle.sd_model.specs.declared.trees.Move.TheVariants.{Swap}
 use Rattle.sd_vtree.specs.Numbered.{Numbered, numbers, children_at}
 use Rattle.sd_vtree.specs.NumberedMoves.{moved_number}
 use Rattle.sd_vtree.proofs.Movable.{leaf_not_movable}
+use Rattle.sd_manager.proofs.Extending.{extends_self}
 use Rattle.sd_apply.specs.Serving.{Serves}
 use Rattle.sd_move.proofs.AfterSweep.{moved_swept}
 use Rattle.sd_move.proofs.ServesLater.{serves_later, serves_swept}
 use Rattle.sd_move.proofs.SwapWhole.{swap_movable, refusal_on_way}
-use Rattle.sd_sweep.proofs.NeverFalling.{never_both, never_swept}
+use Rattle.sd_sweep.proofs.Keeping.{keeps_both, keeps_extended, keeps_swept, unmarked_swept}
+use Rattle.sd_sweep.proofs.NeverFalling.{never_both, never_same, never_swept}
 use Rattle.sd_move.proofs.swapping.swap.Goals as goal
 
 pub returns-in_default-clause-refused : goal.returns-in_default-clause-refused
@@ -107,3 +109,27 @@ returns-in-Err-clause-never_falls c =
     let last : old.epoch ≤ 18446744073709551615 = omega (arith, c.epoch.type_inv, c.epoch.ensures.epoch) in
     never_both old c.sweep.new.m c.swap_nodes.new.m (never_swept old c.sweep.new.m last c.sweep.ensures.swept)
     c.in-Err.ensures.never_falls
+
+pub returns-in_default-clause-back : goal.returns-in_default-clause-back
+returns-in_default-clause-back c =
+    let old = c.args.m.now in (keeps_extended old old (extends_self old), c.requires.no_move)
+
+pub returns-in_default-clause-never_falls : goal.returns-in_default-clause-never_falls
+returns-in_default-clause-never_falls c = never_same c.args.m.now c.args.m.now refl
+
+pub returns-in-Err-clause-back : goal.returns-in-Err-clause-back
+returns-in-Err-clause-back c = (
+  keeps_both c.args.m.now c.sweep.new.m c.swap_nodes.new.m
+      (keeps_swept c.args.m.now c.sweep.new.m c.sweep.ensures.swept) c.in-Err.ensures.back.0,
+  c.in-Err.ensures.back.1,
+)
+
+pub returns-in-Err-clause-unmarked : goal.returns-in-Err-clause-unmarked
+returns-in-Err-clause-unmarked c =
+    c.swap_nodes.ensures.unmarked
+    (unmarked_swept c.args.m.now c.sweep.new.m c.sweep.ensures.swept c.requires.unmarked)
+
+pub within-requires-clause-unmarked : goal.within-requires-clause-unmarked
+within-requires-clause-unmarked c =
+    c.swap_nodes.ensures.unmarked
+    (unmarked_swept c.args.m.now c.sweep.new.m c.sweep.ensures.swept c.requires.unmarked)
