@@ -19,6 +19,3 @@ pub use join::join_parts;
 pub use part::{Part, PartAnswer, parts};
 pub use sd_records::{Records, Ref, export, import};
 pub use tasks::{Task, run_tasks};
-
-#[cfg(test)]
-mod tests;

@@ -9,8 +9,6 @@
 mod listing;
 mod reader;
 mod records;
-#[cfg(test)]
-mod tests;
 mod writer;
 
 pub use reader::import;

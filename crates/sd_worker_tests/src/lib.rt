@@ -2,7 +2,7 @@
 //!
 //! - parts and starts in workers: that they are in work at once, each at its own gate, and that several workers come to
 //!   the answer of one, within small bounds and limits too
-//! - diagrams that leave their manager, circuits of texts and their outputs as nodes, and verdicts on files
+//! - circuits of texts, their outputs as nodes, and verdicts on files
 #![tactic(auto)]
 
 #[cfg(test)]
@@ -12,4 +12,12 @@ mod circuits;
 #[cfg(test)]
 mod gates;
 #[cfg(test)]
+mod inputs;
+#[cfg(test)]
+mod joins;
+#[cfg(test)]
 mod opening;
+#[cfg(test)]
+mod tasks;
+#[cfg(test)]
+mod waiting;

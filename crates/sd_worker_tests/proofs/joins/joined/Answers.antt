@@ -11,7 +11,7 @@ use Rattle.sd_apply.proofs.Tried.{empty_serves}
 use Rattle.sd_parts.specs.Work.{AnswersPart, AreAnswers}
 use Rattle.sd_parts.proofs.Alone.{few_roots}
 use Rattle.sd_parts.proofs.AnswersOf.{answers_of}
-use Rattle.sd_parts.proofs.tests.size_in_parts.Goals as goal
+use Rattle.sd_worker_tests.proofs.joins.joined.Goals as goal
 
 -- what is not 0
 at_least_one : (n : ℕ) → (n == 0) ≡ false → 1 ≤ n
@@ -24,7 +24,7 @@ join_parts-requires-clause-room g c =
 
 pub join_parts-requires-clause-unmarked : goal.join_parts-requires-clause-unmarked
 join_parts-requires-clause-unmarked g c =
-    subst AreUnmarked (sym c.in_ok-m.ensures.ok) (unmarked_new c.in_ok-vtree.vtree 1000000)
+    subst AreUnmarked (sym c.in_ok-m.ensures.ok) (unmarked_new c.in_ok-vtree.vtree c.min-most.result)
 
 pub join_parts-requires-clause-serves : goal.join_parts-requires-clause-serves
 join_parts-requires-clause-serves g c = empty_serves c.in_ok-c.c c.in_ok-m.m c.in_ok-c.ensures
@@ -32,12 +32,12 @@ join_parts-requires-clause-serves g c = empty_serves c.in_ok-c.c c.in_ok-m.m c.i
 pub join_parts-requires-clause-answers : goal.join_parts-requires-clause-answers
 join_parts-requires-clause-answers g c =
     let f = c.args.f.now in
-    let k = vec_len c.loop.gates in
+    let k = vec_len c.args.gates in
     let least = at_least_one k (sym c.is_empty.ensures ∙ c.if-is_empty.false) in
     let most : k ≤ 64 = omega (arith, c.if-len-gt64.false, c.len.ensures) in
     let zipped : AllZip AnswersPart c.in_ok-tasks.tasks.items c.deref.result.now =
     subst (AllZip AnswersPart c.in_ok-tasks.tasks.items) (sym c.deref.ensures.value) c.in_ok-answers.ensures in
     subst (λ t. AreAnswers f t c.args.limit c.deref.result.now)
     (sym (ap (λ (t : Table). plain_tree t.vtree) c.in_ok-m.ensures.ok ∙ sym c.in_ok-tree.ensures.tree))
-    (answers_of f (tree_of c.in_ok-tree.tree) c.args.limit 1000000 k c.in_ok-tasks.tasks.items c.deref.result.now
+    (answers_of f (tree_of c.in_ok-tree.tree) c.args.limit c.min-most.result k c.in_ok-tasks.tasks.items c.deref.result.now
     least most c.in_ok-tasks.ensures zipped)
