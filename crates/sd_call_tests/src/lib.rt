@@ -11,6 +11,8 @@ mod cases;
 #[cfg(test)]
 mod compiling;
 #[cfg(test)]
+mod expect;
+#[cfg(test)]
 mod joining;
 #[cfg(test)]
 mod moves;

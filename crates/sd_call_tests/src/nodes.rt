@@ -1,5 +1,6 @@
 // Which numbers a table of nodes gives, which no contract tells. The helpers have no contract, so a test has nothing
 // to prove.
+use crate::expect::{are_numbers, are_so};
 use sd_runs::TakeError;
 use sd_unique::{Found, Nodes};
 use std::alloc::Global;
@@ -56,15 +57,20 @@ fn retire_idle(nodes: &mut Nodes, count: u32) {
     }
 }
 
+// Counts one use of each node below 40,000 at a multiple of `step`.
+fn use_by_step(nodes: &mut Nodes, step: u32) {
+    for place in 0..40_000_u32 {
+        if step > 0 && place % step == 0 {
+            use_once(nodes, place);
+        }
+    }
+}
+
 // A table of 40,000 nodes, of which those at the multiples of `step` have a use.
 fn used_by_step(alloc: Global, step: u32) -> Result<Nodes, TakeError> {
     let mut nodes = Nodes::new(alloc, 100_000)?;
     make_all(&mut nodes, 0, 40_000)?;
-    for place in 0..40_000_u32 {
-        if step > 0 && place % step == 0 {
-            use_once(&mut nodes, place);
-        }
-    }
+    use_by_step(&mut nodes, step);
     let _ = nodes.idle();
     Ok(nodes)
 }
@@ -94,14 +100,14 @@ fn insert(nodes: &mut Nodes, place: u32, list: &[(u32, u32)]) -> Result<Option<u
     Ok(Some(nodes.insert(place, list)?))
 }
 
-// An arena of three elements: what two lists of two are given, and two runs, of two and of one.
-fn three(alloc: Global) -> Result<[Result<Option<u32>, TakeError>; 4], TakeError> {
-    let mut nodes = Nodes::new(alloc, 3)?;
-    let first = insert(&mut nodes, 1, &[(2, 3), (4, 5)]);
-    let second = insert(&mut nodes, 1, &[(2, 5), (4, 3)]);
-    let two = nodes.take_run(&[(6, 7), (8, 9)]);
-    let one = nodes.take_run(&[(6, 7)]);
-    Ok([first, second, start_of(two), start_of(one)])
+// Whether the answer is that the arena has no room for a fourth element.
+fn is_full(answer: Result<Option<u32>, TakeError>) -> bool {
+    answer == Err(TakeError::ArenaFull { elements: 4 })
+}
+
+// Whether the answer is this number.
+fn is_number(answer: Result<Option<u32>, TakeError>, number: u32) -> bool {
+    answer == Ok(Some(number))
 }
 
 // The start of a run that was taken.
@@ -109,14 +115,27 @@ fn start_of(run: Result<(u32, u32), TakeError>) -> Result<Option<u32>, TakeError
     Ok(Some(run?.0))
 }
 
+// An arena of three elements: whether of two lists of two the first one is the node 0, and the second one has no room;
+// and whether a run of two has none, and one of one starts behind the list.
+fn three(alloc: Global) -> Result<[bool; 4], TakeError> {
+    let mut nodes = Nodes::new(alloc, 3)?;
+    let first = insert(&mut nodes, 1, &[(2, 3), (4, 5)]);
+    let second = insert(&mut nodes, 1, &[(2, 5), (4, 3)]);
+    let two = start_of(nodes.take_run(&[(6, 7), (8, 9)]));
+    let one = start_of(nodes.take_run(&[(6, 7)]));
+    Ok([
+        is_number(first, 0),
+        is_full(second),
+        is_full(two),
+        is_number(one, 2),
+    ])
+}
+
 /// Of an arena of three elements a list of two is taken, and there is no room for two more, as a node or as a run. A
 /// run of one is taken.
 #[test]
 fn three_elements(rt: HostRuntime) -> Result<(), Fail> {
-    let full = Err(TakeError::ArenaFull { elements: 4 });
-    let expected = [Ok(Some(0)), full, full, Ok(Some(2))];
-    assert_eq!(rt; three(rt.alloc())?, expected);
-    Ok(())
+    are_so(&three(rt.alloc())?)
 }
 
 // What is idle, how many elements there are, and how many records.
@@ -133,13 +152,26 @@ fn made_again(nodes: &mut Nodes) -> Result<[[Option<u32>; 3]; 2], TakeError> {
     Ok([between, counts(nodes)])
 }
 
-// The numbers of the first two, the last and the one that stayed, where all others are found.
-fn numbers_again(nodes: &Nodes) -> [Option<u32>; 4] {
-    if !are_all(nodes, 40_000, 79_999) {
-        return [None; 4];
+// The counts, as their test wants them.
+fn are_counts(nodes: &mut Nodes) -> Result<bool, TakeError> {
+    let between = [None, Some(2), Some(40_000)];
+    let behind = [Some(39_998), Some(80_000), Some(40_000)];
+    Ok(made_again(nodes)? == [between, behind])
+}
+
+// The numbers of the first two, the last and the one that stayed, where the counts are right and all others are found.
+fn numbers_again(nodes: &mut Nodes) -> Result<[Option<u32>; 4], TakeError> {
+    if !are_counts(nodes)? || !are_all(nodes, 40_000, 79_999) {
+        return Ok([None; 4]);
     }
     let (first, second) = (at(nodes, 40_000), at(nodes, 40_001));
-    [first, second, at(nodes, 79_998), at(nodes, 39_963)]
+    Ok([first, second, at(nodes, 79_998), at(nodes, 39_963)])
+}
+
+// The same of a new table.
+fn as_many(alloc: Global) -> Result<[Option<u32>; 4], TakeError> {
+    let mut nodes = used_by_step(alloc, 1)?;
+    numbers_again(&mut nodes)
 }
 
 /// Of 40,000 nodes all but one are retired, in an order of their own. As many others get their numbers, from that of
@@ -147,13 +179,8 @@ fn numbers_again(nodes: &Nodes) -> [Option<u32>; 4] {
 /// that was made is the first that is idle.
 #[test]
 fn as_many_again(rt: HostRuntime) -> Result<(), Fail> {
-    let mut nodes = used_by_step(rt.alloc(), 1)?;
-    let between = [None, Some(2), Some(40_000)];
-    let behind = [Some(39_998), Some(80_000), Some(40_000)];
-    assert_eq!(rt; made_again(&mut nodes)?, [between, behind]);
-    let numbers = [Some(39_999), Some(0), Some(39_998), Some(39_963)];
-    assert_eq!(rt; numbers_again(&nodes), numbers);
-    Ok(())
+    let wanted = [Some(39_999), Some(0), Some(39_998), Some(39_963)];
+    are_numbers(&as_many(rt.alloc())?, &wanted)
 }
 
 // In the midst of a sweep: the numbers of a dead node, a used one and an idle one, and that of a new one.
@@ -188,17 +215,28 @@ fn are_fourths(nodes: &Nodes) -> bool {
     true
 }
 
+// The numbers behind a sweep, where those in its midst are right.
+fn numbers_behind(nodes: &mut Nodes) -> Result<[Option<u32>; 5], TakeError> {
+    let midst = [None, Some(39_996), Some(2), Some(39_999)];
+    if in_the_midst(nodes)? == midst {
+        return behind_it(nodes);
+    }
+    Ok([None; 5])
+}
+
+// The same of a new table.
+fn found(alloc: Global) -> Result<[Option<u32>; 5], TakeError> {
+    let mut nodes = used_by_step(alloc, 4)?;
+    numbers_behind(&mut nodes)
+}
+
 /// Of 40,000 nodes all but every fourth are retired in a sweep. In its midst, where the buckets have no chains any
 /// more, nodes are found by their keys, and a new one gets the greatest number that is free; behind it the nodes that
 /// are used are found and no others, and the next new one gets the least number that is free.
 #[test]
 fn found_within_a_sweep(rt: HostRuntime) -> Result<(), Fail> {
-    let mut nodes = used_by_step(rt.alloc(), 4)?;
-    let midst = [None, Some(39_996), Some(2), Some(39_999)];
-    assert_eq!(rt; in_the_midst(&mut nodes)?, midst);
-    let behind = [None, Some(20_002), Some(39_999), Some(1), Some(40_000)];
-    assert_eq!(rt; behind_it(&mut nodes)?, behind);
-    Ok(())
+    let wanted = [None, Some(20_002), Some(39_999), Some(1), Some(40_000)];
+    are_numbers(&found(rt.alloc())?, &wanted)
 }
 
 // Gives the node of a place another place, if no node is there with its list.
@@ -224,8 +262,14 @@ fn moved_in_the_midst(nodes: &mut Nodes) -> [Option<u32>; 5] {
     let midst = nodes.find(50_000, &list_of(28_464));
     retire_idle(nodes, 40_000);
     let [idle, used, _] = counts(nodes);
-    let (here, there) = (nodes.find(50_000, &list_of(28_464)), at(nodes, 28_464));
-    [midst, idle, used, here, there]
+    let here = nodes.find(50_000, &list_of(28_464));
+    [midst, idle, used, here, at(nodes, 28_464)]
+}
+
+// The same of a new table.
+fn moved(alloc: Global) -> Result<[Option<u32>; 5], TakeError> {
+    let mut nodes = used_by_step(alloc, 4)?;
+    Ok(moved_in_the_midst(&mut nodes))
 }
 
 /// In the midst of a large sweep, where the buckets have no chains, a node is unlinked that stood behind a dead one in
@@ -233,31 +277,38 @@ fn moved_in_the_midst(nodes: &mut Nodes) -> [Option<u32>; 5] {
 /// where it was.
 #[test]
 fn moved_within_a_sweep(rt: HostRuntime) -> Result<(), Fail> {
-    let mut nodes = used_by_step(rt.alloc(), 4)?;
-    let expected = [Some(28_464), None, Some(20_000), Some(28_464), None];
-    assert_eq!(rt; moved_in_the_midst(&mut nodes), expected);
-    Ok(())
+    let wanted = [Some(28_464), None, Some(20_000), Some(28_464), None];
+    are_numbers(&moved(rt.alloc())?, &wanted)
 }
 
 // 6,000 nodes come on the stack and 2,000 of them are used again. The counts behind the sweep, and the numbers of two
 // new nodes.
 fn few_of_many(nodes: &mut Nodes) -> Result<[Option<u32>; 4], TakeError> {
     drop_in_order(nodes, 6_000);
-    for step in 4_000..6_000_u32 {
-        use_once(nodes, step * 37 % 40_000);
-    }
+    use_again(nodes);
     retire_idle(nodes, 40_000);
     let [idle, used, _] = counts(nodes);
     make_all(nodes, 50_000, 50_002)?;
     Ok([idle, used, at(nodes, 50_000), at(nodes, 50_001)])
 }
 
+// The same of a new table.
+fn few(alloc: Global) -> Result<[Option<u32>; 4], TakeError> {
+    let mut nodes = used_by_step(alloc, 1)?;
+    few_of_many(&mut nodes)
+}
+
+// Counts one use of 2,000 of the nodes that lost theirs in order.
+fn use_again(nodes: &mut Nodes) {
+    for step in 4_000..6_000_u32 {
+        use_once(nodes, step * 37 % 40_000);
+    }
+}
+
 /// A sweep is large where many nodes stood on the stack in it, also if those that die are few and stand below the
 /// others: behind it the free numbers are in order.
 #[test]
 fn many_on_the_stack(rt: HostRuntime) -> Result<(), Fail> {
-    let mut nodes = used_by_step(rt.alloc(), 1)?;
-    let expected = [None, Some(72_000), Some(0), Some(28)];
-    assert_eq!(rt; few_of_many(&mut nodes)?, expected);
-    Ok(())
+    let wanted = [None, Some(72_000), Some(0), Some(28)];
+    are_numbers(&few(rt.alloc())?, &wanted)
 }

@@ -1,4 +1,5 @@
 // Plain diagrams and trees, whose texts, sizes and moves the program does without.
+use crate::expect::are_so;
 use sd_model::{
     Diagram, Element, Move, MovedError, Side, Tree, compare, moved, size_of, text_of, texts_of,
 };
@@ -77,27 +78,36 @@ fn is_so(alloc: Global, d: &Diagram, text: &str, size: u64) -> Result<bool, Allo
     Ok(text_of(alloc, d)?.as_slice() == text.as_bytes() && size_of(alloc, d)? == size)
 }
 
-// Whether two diagrams have their texts and sizes, and two that share their literals the text of both.
-fn are_so(alloc: Global) -> Result<[bool; 3], AllocError> {
+// Whether two diagrams have their texts and sizes, and whether both have one text.
+fn are_written(alloc: Global) -> Result<[bool; 3], AllocError> {
     let disjunction = is_so(alloc, &one_or_two(alloc)?, DISJUNCTION, 2)?;
     let terms = is_so(alloc, &two_terms(alloc)?, TWO_TERMS, 8)?;
+    Ok([disjunction, terms, are_both(alloc)?])
+}
+
+// Whether two diagrams that share their literals have the text of both.
+fn are_both(alloc: Global) -> Result<bool, AllocError> {
     let text = texts_of(alloc, &[both(alloc)?, one_or_two(alloc)?])?;
-    Ok([disjunction, terms, text.as_slice() == BOTH.as_bytes()])
+    Ok(text.as_slice() == BOTH.as_bytes())
 }
 
 /// Diagrams have the texts and sizes that were found by hand.
 #[test]
 fn texts_and_sizes(rt: HostRuntime) -> Result<(), Fail> {
-    assert_eq!(rt; are_so(rt.alloc())?, [true; 3]);
-    Ok(())
+    are_so(&are_written(rt.alloc())?)
+}
+
+// Whether the negative literal of a variable comes before the other one, and that one behind true.
+fn are_in_order() -> [bool; 2] {
+    let (no, yes) = (literal(1, false), literal(1, true));
+    let first = compare(&no, &yes) == Ordering::Less;
+    [first, compare(&yes, &Diagram::Top) == Ordering::Greater]
 }
 
 /// The negative literal comes first, and true before a literal.
 #[test]
-fn order_of_literals(rt: HostRuntime) {
-    let (no, yes) = (literal(1, false), literal(1, true));
-    assert_eq!(rt; compare(&no, &yes), Ordering::Less);
-    assert_eq!(rt; compare(&yes, &Diagram::Top), Ordering::Greater);
+fn order_of_literals() -> Result<(), Fail> {
+    are_so(&are_in_order())
 }
 
 fn node(alloc: Global, left: Tree, right: Tree) -> Result<Tree, AllocError> {
@@ -130,15 +140,22 @@ fn is_moved(alloc: Global, tree: Tree, place: &[Side], kind: Move, to: Tree) -> 
     }
 }
 
-// Whether `((1 2) 3)` is rotated to the right and back, and its left child swapped.
-fn are_moved(alloc: Global) -> Result<[bool; 3], AllocError> {
+// Whether `((1 2) 3)` is rotated to the right.
+fn is_rotated(alloc: Global) -> Result<bool, AllocError> {
     let (from, to) = (left_tree(alloc, 1, 2)?, right_tree(alloc)?);
-    let right = is_moved(alloc, from, &[], Move::RotateRight, to);
+    Ok(is_moved(alloc, from, &[], Move::RotateRight, to))
+}
+
+// Whether it is rotated back.
+fn is_rotated_back(alloc: Global) -> Result<bool, AllocError> {
     let (from, to) = (right_tree(alloc)?, left_tree(alloc, 1, 2)?);
-    let left = is_moved(alloc, from, &[], Move::RotateLeft, to);
+    Ok(is_moved(alloc, from, &[], Move::RotateLeft, to))
+}
+
+// Whether its left child is swapped.
+fn is_swapped(alloc: Global) -> Result<bool, AllocError> {
     let (from, to) = (left_tree(alloc, 1, 2)?, left_tree(alloc, 2, 1)?);
-    let swapped = is_moved(alloc, from, &[Side::Left], Move::Swap, to);
-    Ok([right, left, swapped])
+    Ok(is_moved(alloc, from, &[Side::Left], Move::Swap, to))
 }
 
 // Whether the right child of `((1 2) 3)` is not movable.
@@ -148,10 +165,14 @@ fn is_leaf_kept(alloc: Global) -> Result<bool, AllocError> {
     Ok(matches!(leaf, Err(MovedError::NotMovable)))
 }
 
+// The same of all moves.
+fn are_moved(alloc: Global) -> Result<[bool; 4], AllocError> {
+    let (right, left) = (is_rotated(alloc)?, is_rotated_back(alloc)?);
+    Ok([right, left, is_swapped(alloc)?, is_leaf_kept(alloc)?])
+}
+
 /// `((1 2) 3)` is rotated to the right and back, its left child is swapped, and its right child is a leaf.
 #[test]
 fn moves_of_three_leaves(rt: HostRuntime) -> Result<(), Fail> {
-    assert_eq!(rt; are_moved(rt.alloc())?, [true; 3]);
-    assert!(rt; is_leaf_kept(rt.alloc())?);
-    Ok(())
+    are_so(&are_moved(rt.alloc())?)
 }
